@@ -1,0 +1,14 @@
+pub mod At
+pub mod Records
+pub mod Tests
+pub mod Walks
+pub mod Reaches
+pub mod Nested
+pub mod Surroundings
+pub mod Decided
+pub mod Deciding
+pub mod Exact
+pub mod Copying
+pub mod Joint
+pub mod Verdicts
+pub mod OnePlace

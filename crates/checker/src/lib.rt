@@ -1,0 +1,15 @@
+// Accepting a program: its shape and its type rules.
+mod accepting;
+mod faults;
+mod labelled;
+mod program;
+mod rules;
+mod shape;
+mod walk;
+
+pub use accepting::accept;
+pub use faults::RuleFault;
+pub use program::Program;
+pub use faults::RuleRefusal;
+pub use faults::ShapeFault;
+pub use faults::ShapeRefusal;

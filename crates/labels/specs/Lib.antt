@@ -1,0 +1,5 @@
+pub mod Labels
+pub mod Orders
+pub mod Make
+pub mod Cases
+pub mod Faults

@@ -1,0 +1,9 @@
+pub mod Nesting
+pub mod Program
+pub mod Rules
+pub mod Machine
+pub mod Log
+pub mod Session
+pub mod Secrecy
+pub mod Cases
+pub mod Faults
