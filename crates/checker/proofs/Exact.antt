@@ -146,12 +146,12 @@ module _ (L : Labels) (p : Program) where
       (both _ _ (first-none _ (length (p .variables)) (λ v h. passes (L .known (label-of (p .variables) v)) (VariableLabel v) (W .variable-labels v h)))
       (both _ _
       (first-none _ (length (p .records)) (λ j h.
-        let at : IsRecord p (j + 1) = (omega arith, omega arith) in
-        let r = record-at (p .records) (j + 1) in
-        by-none L (p .variables) (length (p .records)) (j + 1) r (W .record-labels (j + 1) at)
-        (a-present p (r .form) .1 (W .sound .present (j + 1) at)) (a-kinds p (r .form) .1 (W .sound .kinds (j + 1) at))
-        (a-links (length (p .records)) (j + 1) r .1 (W .sound .linked .rises (j + 1) (omega arith) (omega arith)))
-        (a-lengths p (r .form) .1 (W .sound .lengths (j + 1) at))))
+      let at : IsRecord p (j + 1) = (omega arith, omega arith) in
+      let r = record-at (p .records) (j + 1) in
+      by-none L (p .variables) (length (p .records)) (j + 1) r (W .record-labels (j + 1) at)
+      (a-present p (r .form) .1 (W .sound .present (j + 1) at)) (a-kinds p (r .form) .1 (W .sound .kinds (j + 1) at))
+      (a-links (length (p .records)) (j + 1) r .1 (W .sound .linked .rises (j + 1) (omega arith) (omega arith)))
+      (a-lengths p (r .form) .1 (W .sound .lengths (j + 1) at))))
       (first-none _ (length (p .records) - 1) (λ j h. passes (eqb (times-linked (p .records) (j + 2)) 1) (LinkedOnce (j + 2)) (eq-eqb _ _ (W .sound .linked .once (j + 2) (omega arith) (omega arith)))))))
       (first-none _ (length (p .records)) (λ j h. passes (leb (place (p .records) (j + 1) .depth) 16) (Depth (j + 1)) (le-leb _ _ (W .sound .shallow (j + 1) (omega arith, omega arith)))))
 

@@ -28,8 +28,7 @@ module _ (rs : List Record) (some : 1 ≤ length rs) (well : Linked rs) where
       (low, in-range (length rs) k j up, h .2 ∙ sym (place-next rs well k j (h .0) (above (length rs) k j up low) (in-range (length rs) k j up) e))
   only (branch {k} j low s e) =
       let h = only s in
-      let up = link-rises k j (h .0) (h .1) (inr e) in
-      (
+      let up = link-rises k j (h .0) (h .1) (inr e) in (
         low,
         in-range (length rs) k j up,
         ap (λ (q : Place). record { enclosing = k; depth = q .depth + 1 }) (h .2) ∙ sym (place-branch rs well k j (h .0) (above (length rs) k j up low) (in-range (length rs) k j up) e),
@@ -44,9 +43,9 @@ module _ (rs : List Record) (some : 1 ≤ length rs) (well : Linked rs) where
   at (suc n) k h low high =
       ⊎-elim
       (λ (up : 1 < k).
-        let f = linked-from rs well k up high in
-        let s = by-link (f .0) k low (f .3) (at n (f .0) (omega (arith, f .2)) (f .1) (omega (arith, f .2))) in
-        subst (Stands rs k) (only (s .1) .2) (s .1))
+      let f = linked-from rs well k up high in
+      let s = by-link (f .0) k low (f .3) (at n (f .0) (omega (arith, f .2)) (f .1) (omega (arith, f .2))) in
+      subst (Stands rs k) (only (s .1) .2) (s .1))
       (λ (down : k ≤ 1). let e : 1 ≡ k = omega arith in subst (λ i. Stands rs i (place rs i)) e (subst (Stands rs 1) (sym (main-place rs)) first))
       (cases-lt 1 k)
 

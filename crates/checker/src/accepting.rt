@@ -13,14 +13,6 @@ ghost use Rattle.model.specs.Nesting.{place};
 ghost use Rattle.checker.specs.Checks.{shape-refusal};
 ghost use Rattle.checker.specs.Accepting.{program, sheet-variables, sheet-records, sheet-program, accept-refusal, Verdict};
 ghost use Rattle.checker.specs.Contents.{contents, holding, smallest};
-use labels::LabelOrder;
-use model::Place;
-use refusal::Refusal;
-use sheet::ReadSheet;
-use sheet::Form;
-use sheet::Kind;
-use sheet::Record;
-use sheet::Variable;
 use crate::faults::RuleRefusal;
 use crate::faults::ShapeFault;
 use crate::faults::ShapeRefusal;
@@ -33,6 +25,14 @@ use crate::shape::check_linked_once;
 use crate::shape::check_records;
 use crate::shape::check_variables;
 use crate::walk::nest;
+use labels::LabelOrder;
+use model::Place;
+use refusal::Refusal;
+use sheet::Form;
+use sheet::Kind;
+use sheet::ReadSheet;
+use sheet::Record;
+use sheet::Variable;
 
 // Copies the variables of a sheet to the beginning of a table.
 fn copy_variables(sheet: &ReadSheet, out: &mut [Variable])
@@ -55,7 +55,12 @@ fn copy_records(sheet: &ReadSheet, out: &mut [Record])
 }
 
 // The shape, and where each record stands.
-fn check_shape<O: LabelOrder>(order: &O, variables: &[Variable], records: &[Record], places: &mut [Place]) -> Result<(), ShapeFault>
+fn check_shape<O: LabelOrder>(
+    order: &O,
+    variables: &[Variable],
+    records: &[Record],
+    places: &mut [Place],
+) -> Result<(), ShapeFault>
     requires fits { ⌜ 1 ≤ length (now records) ⌝ ∗ ⌜ length (now records) ≤ 512 ⌝ ∗ ⌜ length (now records) ≤ length (now places) ⌝ }
     ensures answers { λ r. ⌜ r ≡ answer (shape-refusal (meaning (now (order .entry))) (program (now (variables .entry)) (now (records .entry)))) tt ⌝ }
     ensures placed { λ _. ⌜ (shape-refusal (meaning (now (order .entry))) (program (now (variables .entry)) (now (records .entry))) ≡ None → (j : ℕ) → j < length (now (records .entry)) → nth (now (places .exit)) j ≡ Some (place (now (records .entry)) (j + 1))) ⌝ }
@@ -67,11 +72,18 @@ fn check_shape<O: LabelOrder>(order: &O, variables: &[Variable], records: &[Reco
     check_depth(records, places)
 }
 
-fn check<O: LabelOrder>(order: &O, variables: &[Variable], records: &[Record]) -> Result<(), Refusal>
+fn check<O: LabelOrder>(
+    order: &O,
+    variables: &[Variable],
+    records: &[Record],
+) -> Result<(), Refusal>
     requires fits { ⌜ 1 ≤ length (now records) ⌝ ∗ ⌜ length (now records) ≤ 512 ⌝ }
     ensures { λ r. ⌜ r ≡ answer (accept-refusal (meaning (now (order .entry))) (program (now (variables .entry)) (now (records .entry)))) tt ⌝ }
 {
-    let mut places = [Place { enclosing: 0, depth: 0 }; 512];
+    let mut places = [Place {
+        enclosing: 0,
+        depth: 0,
+    }; 512];
     check_shape(order, variables, records, &mut places)?;
     check_rules(order, variables, records, &places)?;
     Ok(())
@@ -85,15 +97,26 @@ impl<O: LabelOrder> Program<O> {
         let label = order.public();
         Program {
             order,
-            variables: [Variable { label, kind: Kind::Number }; 64],
+            variables: [Variable {
+                label,
+                kind: Kind::Number,
+            }; 64],
             variable_count: 1,
-            records: [Record { label, next: 0, form: Form::Skip }; 512],
+            records: [Record {
+                label,
+                next: 0,
+                form: Form::Skip,
+            }; 512],
             record_count: 1,
         }
     }
 }
 
-fn take_over<O: LabelOrder>(sheet: &ReadSheet, order: &O, program: &mut Program<O>) -> Result<(), Refusal>
+fn take_over<O: LabelOrder>(
+    sheet: &ReadSheet,
+    order: &O,
+    program: &mut Program<O>,
+) -> Result<(), Refusal>
     ensures answers { λ r. ⌜ r ≡ answer (accept-refusal (meaning (now (order .entry))) (sheet-program (now (now (sheet .entry) .bytes)))) tt ⌝ }
     ensures filled { λ r. ⌜ contents (now (program .exit)) ≡ cond (isOk r) (holding (now (order .entry)) (sheet-program (now (now (sheet .entry) .bytes)))) (contents (now (program .entry))) ⌝ }
 {
@@ -104,12 +127,22 @@ fn take_over<O: LabelOrder>(sheet: &ReadSheet, order: &O, program: &mut Program<
     let mut records = [SKIP; 512];
     copy_records(sheet, &mut records);
     check(order, &variables[0..n], &records[0..m])?;
-    *program = Program { order: *order, variables, variable_count: n, records, record_count: m };
+    *program = Program {
+        order: *order,
+        variables,
+        variable_count: n,
+        records,
+        record_count: m,
+    };
     Ok(())
 }
 
 // Fills the program that the host lends with the tables of a sheet, unless it is refused.
-pub fn accept<O: LabelOrder>(sheet: &ReadSheet, order: &O, program: &mut Program<O>) -> Result<(), Refusal>
+pub fn accept<O: LabelOrder>(
+    sheet: &ReadSheet,
+    order: &O,
+    program: &mut Program<O>,
+) -> Result<(), Refusal>
     ensures answers { λ r. ⌜ r ≡ answer (accept-refusal (meaning (now (order .entry))) (sheet-program (now (now (sheet .entry) .bytes)))) tt ⌝ }
     ensures filled { λ r. ⌜ contents (now (program .exit)) ≡ cond (isOk r) (holding (now (order .entry)) (sheet-program (now (now (sheet .entry) .bytes)))) (contents (now (program .entry))) ⌝ }
     ensures verdict { λ r. ⌜ Verdict (meaning (now (order .entry))) (sheet-program (now (now (sheet .entry) .bytes))) r ⌝ }

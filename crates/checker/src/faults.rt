@@ -71,7 +71,11 @@ pub impl From<ShapeFault> for Refusal as ShapeRefusal {
     ghost converts = { λ f r. r ≡ shape-refusal-of f };
 
     fn from(f: ShapeFault) -> Refusal {
-        Refusal { layer: Layer::Shape, number: f.number(), place: f.place() }
+        Refusal {
+            layer: Layer::Shape,
+            number: f.number(),
+            place: f.place(),
+        }
     }
 }
 
@@ -79,6 +83,10 @@ pub impl From<RuleFault> for Refusal as RuleRefusal {
     ghost converts = { λ f r. r ≡ rule-refusal-of f };
 
     fn from(f: RuleFault) -> Refusal {
-        Refusal { layer: Layer::Rule, number: f.rule as u8, place: f.place }
+        Refusal {
+            layer: Layer::Rule,
+            number: f.rule as u8,
+            place: f.place,
+        }
     }
 }

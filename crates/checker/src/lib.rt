@@ -1,5 +1,6 @@
 // Accepting a program: its shape and its type rules.
 mod accepting;
+mod access;
 mod faults;
 mod labelled;
 mod program;
@@ -9,7 +10,7 @@ mod walk;
 
 pub use accepting::accept;
 pub use faults::RuleFault;
-pub use program::Program;
 pub use faults::RuleRefusal;
 pub use faults::ShapeFault;
 pub use faults::ShapeRefusal;
+pub use program::Program;

@@ -12,16 +12,16 @@ ghost use Rattle.model.specs.Program.{label-of};
 ghost use Rattle.model.specs.Rules.{join-all};
 ghost use Rattle.checker.specs.Breaches.{labelled, labels-read, first-broken, rules-refusal};
 ghost use Rattle.checker.specs.Accepting.{program};
+use crate::faults::RuleFault;
+use crate::labelled::Labelled;
+use crate::shape::record_at;
+use crate::shape::variable_at;
 use labels::LabelOrder;
 use model::Place;
 use model::Rule;
 use sheet::Form;
 use sheet::Record;
 use sheet::Variable;
-use crate::faults::RuleFault;
-use crate::labelled::Labelled;
-use crate::shape::record_at;
-use crate::shape::variable_at;
 
 fn label(vs: &[Variable], v: u8) -> u8
     ensures { λ r. ⌜ r ≡ label-of (now (vs .entry)) v ⌝ }
@@ -37,11 +37,29 @@ fn labelled(vs: &[Variable], s: u8, l: u8, form: Form) -> Labelled
         Form::Skip => (0, 0, 0, 0),
         Form::Constant { x, .. } => (label(vs, x), 0, 0, 0),
         Form::If { a, .. } | Form::While { a, .. } => (0, label(vs, a), 0, 0),
-        Form::Copy { x, a } | Form::Declass { x, a } | Form::Oram { x, a } => (label(vs, x), label(vs, a), 0, 0),
-        Form::Binary { x, a, b, .. } | Form::Fetch { x, a, b } | Form::Store { x, a, b } => (label(vs, x), label(vs, a), label(vs, b), 0),
+        Form::Copy { x, a } | Form::Declass { x, a } | Form::Oram { x, a } => (
+            label(vs, x),
+            label(vs, a),
+            0,
+            0,
+        ),
+        Form::Binary { x, a, b, .. } | Form::Fetch { x, a, b } | Form::Store { x, a, b } => (
+            label(vs, x),
+            label(vs, a),
+            label(vs, b),
+            0,
+        ),
         Form::Mux { x, a, b, c } => (label(vs, x), label(vs, a), label(vs, b), label(vs, c)),
     };
-    Labelled { around: s, form: form.number(), label: l, x, a, b, c }
+    Labelled {
+        around: s,
+        form: form.number(),
+        label: l,
+        x,
+        a,
+        b,
+        c,
+    }
 }
 
 // The join of all labels that a record of forms 1 to 6 reads.
@@ -88,14 +106,22 @@ fn around<O: LabelOrder>(order: &O, records: &[Record], enclosing: u16) -> u8
 }
 
 // Refuses the first record that breaks a rule.
-pub(crate) fn check_rules<O: LabelOrder>(order: &O, variables: &[Variable], records: &[Record], places: &[Place]) -> Result<(), RuleFault>
+pub(crate) fn check_rules<O: LabelOrder>(
+    order: &O,
+    variables: &[Variable],
+    records: &[Record],
+    places: &[Place],
+) -> Result<(), RuleFault>
     requires { ⌜ length (now records) ≤ 512 ⌝ ∗ ⌜ ((j : ℕ) → j < length (now records) → nth (now places) j ≡ Some (place (now records) (j + 1))) ⌝ ∗ ⌜ length (now records) ≤ length (now places) ⌝ }
     ensures { λ r. ⌜ r ≡ answer (rules-refusal (meaning (now (order .entry))) (program (now (variables .entry)) (now (records .entry))) (length (now (records .entry)))) tt ⌝ }
 {
     for j in 0..records.len() {
         let entry = records[j];
         let surroundings = around(order, records, places[j].enclosing);
-        if let Some(rule) = broken_rule(order, labelled(variables, surroundings, entry.label, entry.form)) {
+        if let Some(rule) = broken_rule(
+            order,
+            labelled(variables, surroundings, entry.label, entry.form),
+        ) {
             return Err(RuleFault { rule, place: j + 1 });
         }
     }

@@ -10,15 +10,18 @@ ghost use Rattle.refusal.specs.Answers.{answer};
 ghost use Rattle.model.specs.Nesting.{branches, record-at, count, links, times-linked, place};
 ghost use Rattle.model.specs.Program.{variable-at};
 ghost use Rattle.checker.specs.Checks.{is-number, is-array, present, right-kinds, same-length, link-fits, links-fit, record-refusal, variables-refusal, records-refusal, once-refusal, depth-refusal};
+use crate::faults::ShapeFault;
 use labels::LabelOrder;
 use model::Place;
 use sheet::Form;
 use sheet::Kind;
 use sheet::Record;
 use sheet::Variable;
-use crate::faults::ShapeFault;
 
-pub(crate) const NO_VARIABLE: Variable = Variable { label: 0, kind: Kind::Number };
+pub(crate) const NO_VARIABLE: Variable = Variable {
+    label: 0,
+    kind: Kind::Number,
+};
 
 // The variable numbered v, or a number labelled 0 beyond the table.
 pub(crate) fn variable_at(variables: &[Variable], v: u8) -> Variable
@@ -31,7 +34,11 @@ pub(crate) fn variable_at(variables: &[Variable], v: u8) -> Variable
     }
 }
 
-pub(crate) const SKIP: Record = Record { label: 0, next: 0, form: Form::Skip };
+pub(crate) const SKIP: Record = Record {
+    label: 0,
+    next: 0,
+    form: Form::Skip,
+};
 
 // The record numbered k, from 1, or a skip labelled 0 where there is none.
 pub(crate) fn record_at(records: &[Record], k: usize) -> Record
@@ -78,7 +85,8 @@ fn present(vs: &[Variable], form: Form) -> bool
         Form::Skip => true,
         Form::Constant { x, .. } => has(vs, x),
         Form::If { a, .. } | Form::While { a, .. } => has(vs, a),
-        Form::Copy { x, a } | Form::Declass { x, a } | Form::Oram { x, a } => has(vs, x) && has(vs, a),
+        Form::Copy { x, a } | Form::Declass { x, a } | Form::Oram { x, a } => has(vs, x)
+            && has(vs, a),
         Form::Binary { x, a, b, .. } => has(vs, x) && has(vs, a) && has(vs, b),
         Form::Fetch { x, a, b } => has(vs, x) && has(vs, b) && has(vs, a),
         Form::Store { x, a, b } => has(vs, a) && has(vs, b) && has(vs, x),
@@ -99,7 +107,10 @@ fn right_kinds(vs: &[Variable], form: Form) -> bool
         Form::Binary { x, a, b, .. } => is_number(vs, x) && is_number(vs, a) && is_number(vs, b),
         Form::Fetch { x, a, b } => is_number(vs, x) && is_number(vs, b) && is_array(vs, a),
         Form::Store { x, a, b } => is_number(vs, a) && is_number(vs, b) && is_array(vs, x),
-        Form::Mux { x, a, b, c } => is_number(vs, x) && is_number(vs, a) && is_number(vs, b) && is_number(vs, c),
+        Form::Mux { x, a, b, c } => is_number(vs, x)
+            && is_number(vs, a)
+            && is_number(vs, b)
+            && is_number(vs, c),
     }
 }
 
@@ -138,7 +149,13 @@ fn links_fit(entry: Record, k: usize, n: usize) -> bool
 }
 
 // Record k, of n.
-fn check_record<O: LabelOrder>(order: &O, variables: &[Variable], n: usize, k: usize, entry: Record) -> Result<(), ShapeFault>
+fn check_record<O: LabelOrder>(
+    order: &O,
+    variables: &[Variable],
+    n: usize,
+    k: usize,
+    entry: Record,
+) -> Result<(), ShapeFault>
     ensures { λ r. ⌜ r ≡ answer (record-refusal (meaning (now (order .entry))) (now (variables .entry)) n k entry) tt ⌝ }
 {
     if !order.knows(entry.label) {
@@ -159,7 +176,10 @@ fn check_record<O: LabelOrder>(order: &O, variables: &[Variable], n: usize, k: u
     Ok(())
 }
 
-pub(crate) fn check_variables<O: LabelOrder>(order: &O, variables: &[Variable]) -> Result<(), ShapeFault>
+pub(crate) fn check_variables<O: LabelOrder>(
+    order: &O,
+    variables: &[Variable],
+) -> Result<(), ShapeFault>
     ensures { λ r. ⌜ r ≡ answer (variables-refusal (meaning (now (order .entry))) (now (variables .entry)) (length (now (variables .entry)))) tt ⌝ }
 {
     for v in 0..variables.len() {
@@ -170,7 +190,11 @@ pub(crate) fn check_variables<O: LabelOrder>(order: &O, variables: &[Variable]) 
     Ok(())
 }
 
-pub(crate) fn check_records<O: LabelOrder>(order: &O, variables: &[Variable], records: &[Record]) -> Result<(), ShapeFault>
+pub(crate) fn check_records<O: LabelOrder>(
+    order: &O,
+    variables: &[Variable],
+    records: &[Record],
+) -> Result<(), ShapeFault>
     requires { ⌜ length (now records) ≤ 512 ⌝ }
     ensures { λ r. ⌜ r ≡ answer (records-refusal (meaning (now (order .entry))) (now (variables .entry)) (now (records .entry)) (length (now (records .entry)))) tt ⌝ }
 {

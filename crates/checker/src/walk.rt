@@ -4,10 +4,10 @@ ghost use Prim.Native.Nat.{ℕ, _+_, _-_, _<_, _≤_};
 ghost use lib.ListN.{length, getD};
 ghost use Rattle.model.specs.Nesting.{Linked, place};
 ghost use Rattle.checker.specs.Walking.{Fills, Filled, Leads, nested};
-use sheet::Record;
-use model::Place;
 use crate::shape::branches;
 use crate::shape::record_at;
+use model::Place;
+use sheet::Record;
 
 // Fills in the places of record k and of all that its links lead to. The links rise, so fewer records are left at each call.
 fn walk(records: &[Record], k: usize, here: Place, out: &mut [Place])
@@ -23,7 +23,10 @@ fn walk(records: &[Record], k: usize, here: Place, out: &mut [Place])
     out[k - 1] = here;
     let entry = record_at(records, k);
     let (first, second) = branches(entry.form);
-    let inside = Place { enclosing: k as u16, depth: here.depth + 1 };
+    let inside = Place {
+        enclosing: k as u16,
+        depth: here.depth + 1,
+    };
     walk(records, first as usize, inside, out);
     walk(records, second as usize, inside, out);
     walk(records, entry.next as usize, here, out);
@@ -36,5 +39,13 @@ pub(crate) fn nest(records: &[Record], out: &mut [Place])
     ensures table { λ _. ⌜ now (out .exit) ≡ nested (now (records .entry)) (now (out .entry)) ⌝ }
     ensures each { λ _. ⌜ ((j : ℕ) → j < length (now (records .entry)) → Filled (now (records .entry)) (now (out .exit)) j) ⌝ }
 {
-    walk(records, 1, Place { enclosing: 0, depth: 1 }, out);
+    walk(
+        records,
+        1,
+        Place {
+            enclosing: 0,
+            depth: 1,
+        },
+        out,
+    );
 }

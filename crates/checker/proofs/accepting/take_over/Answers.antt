@@ -36,9 +36,10 @@ ghost-program g c =
     let tv = copied (sheet-variables bs) _ _ (c .variables-n .result) (variable-count bs) (variables-long bs) (c .variables-n .ensures .count) (c .copy-variables .ensures) in
     let tr = copied (sheet-records bs) _ _ (c .records-m .result) (record-count bs) (records-long bs) (c .records-m .ensures .count) (c .copy-records .ensures) in
     let ok = (λ i. accept-refusal L (program (sym sv i) (sym sr i))) ∙ accepted _ _ _ (c .in-Continue-check .ensures tt) .0 in
-    let fit = accepted-fits L (sheet-program bs) ok in
-    ((omega (arith, c .variables-n .ensures .count, h .few-variables), omega (arith, c .records-m .ensures .count, h .few-records), omega (arith, c .records-m .ensures .count, h .some-record)),
-      ((λ i. tables-fit (tv i) (tr i) ((c .records-m .ensures .count ∙ sym (records-long bs)) i)) ∙ fit, tt))
+    let fit = accepted-fits L (sheet-program bs) ok in (
+      (omega (arith, c .variables-n .ensures .count, h .few-variables), omega (arith, c .records-m .ensures .count, h .few-records), omega (arith, c .records-m .ensures .count, h .some-record)),
+      ((λ i. tables-fit (tv i) (tr i) ((c .records-m .ensures .count ∙ sym (records-long bs)) i)) ∙ fit, tt),
+    )
 
 pub returns-in-Break-check : need.returns-in-Break-check
 returns-in-Break-check g c =
