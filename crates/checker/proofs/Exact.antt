@@ -21,11 +21,13 @@ use Rattle.model.specs.Nesting.{Rises, links, branches, record-at, times-linked
 use Rattle.model.specs.Program.{Program, IsVariable, IsRecord, kind-of, label-of, length-of, numbers, arrays}
 use Rattle.model.specs.Rules.{IsNumber, IsArray, Present, Right-kinds, Same-length, Sound, Well-shaped, Well-typed, Keeps}
 use Rattle.model.proofs.Linkers.{found-first}
-use Rattle.checker.specs.declared.faults.ShapeFault.the-variants.{VariableLabel, LinkedOnce, Depth}
-use Rattle.checker.specs.declared.faults.RuleFault.{RuleFault}
-use Rattle.checker.specs.Checks.{is-number, is-array, present, right-kinds, same-length, link-fits, links-fit, record-refusal, variables-refusal, records-refusal, once-refusal, depth-refusal, entries-refusal, shape-refusal, tables-fit}
-use Rattle.checker.specs.Breaches.{breaks, labelled-at, first-broken, fault-at, rules, rules-refusal}
-use Rattle.checker.proofs.Records.{Passed, all-passed, by-none}
+use Rattle.rules.specs.declared.faults.ShapeFault.the-variants.{VariableLabel, LinkedOnce, Depth}
+use Rattle.rules.specs.declared.faults.RuleFault.{RuleFault}
+use Rattle.rules.specs.Shape.{is-number, is-array, present, right-kinds, same-length, link-fits, links-fit, record-refusal}
+use Rattle.checker.specs.Checks.{variables-refusal, records-refusal, once-refusal, depth-refusal, entries-refusal, shape-refusal, tables-fit}
+use Rattle.rules.specs.Breaches.{breaks, first-broken, rules}
+use Rattle.checker.specs.Breaches.{labelled-at, fault-at, rules-refusal}
+use Rattle.rules.proofs.Records.{Passed, all-passed, by-none}
 use Rattle.checker.proofs.Decided.{Agrees, a-always, a-and, a-all, a-lt, a-eq, a-number, a-array, a-rises}
 use Rattle.checker.proofs.Deciding.{decided, none-broken, some-broken}
 

@@ -1,5 +1,3 @@
-pub mod At
-pub mod Records
 pub mod Tests
 pub mod Walks
 pub mod Reaches

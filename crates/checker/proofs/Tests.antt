@@ -18,7 +18,8 @@ use Rattle.std.proofs.shelf.Maps.{nth-getD}
 use Rattle.sheet.specs.declared.tables.Record.{Record}
 use Rattle.model.specs.declared.place.Place.{Place}
 use Rattle.model.specs.Nesting.{Linked, Rises, count, links, branches, skip, record-at, times-linked, place}
-use Rattle.checker.specs.Checks.{link-fits, links-fit, once-refusal, depth-refusal}
+use Rattle.rules.specs.Shape.{link-fits, links-fit}
+use Rattle.checker.specs.Checks.{once-refusal, depth-refusal}
 use Rattle.model.proofs.Linkers.{at-index}
 use Rattle.model.proofs.Counts.{count-append}
 

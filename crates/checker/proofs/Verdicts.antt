@@ -19,9 +19,9 @@ use Rattle.model.specs.declared.rule.Rule.{Rule}
 use Rattle.model.specs.Program.{Program, IsRecord}
 use Rattle.model.specs.Rules.{Well-shaped, Keeps, Accepted}
 use Rattle.model.proofs.Theorem.{secrecy}
-use Rattle.checker.specs.declared.faults.ShapeFault.{ShapeFault}
-use Rattle.checker.specs.declared.faults.RuleFault.{RuleFault}
-use Rattle.checker.specs.Faults.{shape-refusal-of, rule-refusal-of, rule-number}
+use Rattle.rules.specs.declared.faults.ShapeFault.{ShapeFault}
+use Rattle.rules.specs.declared.faults.RuleFault.{RuleFault}
+use Rattle.rules.specs.Faults.{shape-refusal-of, rule-refusal-of, rule-number}
 use Rattle.checker.specs.Checks.{shape-refusal, tables-fit}
 use Rattle.checker.specs.Breaches.{rules-refusal}
 use Rattle.checker.specs.Accepting.{accept-refusal, Verdict}

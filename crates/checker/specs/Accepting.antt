@@ -20,7 +20,7 @@ use Rattle.model.specs.Nesting.{skip, Stands-once}
 use Rattle.model.specs.Program.{Program, IsRecord, no-variable}
 use Rattle.model.specs.Rules.{Well-shaped, Keeps, Accepted}
 use Rattle.model.specs.Secrecy.{Secrecy}
-use Rattle.checker.specs.Faults.{shape-refusal-of, rule-refusal-of, rule-number}
+use Rattle.rules.specs.Faults.{shape-refusal-of, rule-refusal-of, rule-number}
 use Rattle.checker.specs.Checks.{shape-refusal}
 use Rattle.checker.specs.Breaches.{rules-refusal}
 

@@ -6,9 +6,9 @@ ghost use Rattle.model.specs.Nesting.{record-at};
 ghost use Rattle.model.specs.Program.{variable-at};
 ghost use Rattle.checker.specs.Contents.{contents};
 use crate::program::Program;
-use crate::shape::record_at;
-use crate::shape::variable_at;
 use labels::LabelOrder;
+use rules::record_at;
+use rules::variable_at;
 use sheet::Record;
 use sheet::Variable;
 

@@ -4,9 +4,9 @@ ghost use Prim.Native.Nat.{ℕ, _+_, _-_, _<_, _≤_};
 ghost use lib.ListN.{length, getD};
 ghost use Rattle.model.specs.Nesting.{Linked, place};
 ghost use Rattle.checker.specs.Walking.{Fills, Filled, Leads, nested};
-use crate::shape::branches;
-use crate::shape::record_at;
 use model::Place;
+use rules::branches;
+use rules::record_at;
 use sheet::Record;
 
 // Fills in the places of record k and of all that its links lead to. The links rise, so fewer records are left at each call.

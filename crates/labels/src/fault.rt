@@ -15,7 +15,11 @@ pub impl From<OrderFault> for Refusal as OrderRefusal {
 
     fn from(f: OrderFault) -> Refusal {
         match f {
-            OrderFault::Parties(place) => Refusal { layer: Layer::Order, number: 50, place },
+            OrderFault::Parties(place) => Refusal {
+                layer: Layer::Order,
+                number: 50,
+                place,
+            },
         }
     }
 }

@@ -19,7 +19,9 @@ impl PartySet {
         ensures { λ r. ⌜ map-ok (λ s. s .parties) r ≡ party-count parties ⌝ }
     {
         match parties {
-            2..=8 => Ok(PartySet { parties: parties as u8 }),
+            2..=8 => Ok(PartySet {
+                parties: parties as u8,
+            }),
             _ => Err(OrderFault::Parties(parties)),
         }
     }

@@ -62,10 +62,10 @@ module _ (rs : List Record) (well : Linked rs) where
       let here : record-at rs (suc k) ≡ getD rs k skip = ap (record-at rs) (sym back) ∙ at-index rs k in
       let linked′ : 0 < count j (links (getD rs k skip)) = subst (λ r. 0 < count j (links r)) here linked in
       let others : (i : ℕ) → i < k → link rs j (i + 1) ≡ None =
-          λ i h.
-            let two = count-two j rs i k skip h (omega arith) in
-            let zero-links : count j (links (record-at rs (i + 1))) ≡ 0 = ap (λ r. count j (links r)) (at-index rs i) ∙ omega arith in
-            none-of _ _ _ _ _ zero-links in
+      λ i h.
+      let two = count-two j rs i k skip h (omega arith) in
+      let zero-links : count j (links (record-at rs (i + 1))) ≡ 0 = ap (λ r. count j (links r)) (at-index rs i) ∙ omega arith in
+      none-of _ _ _ _ _ zero-links in
       first-stop (λ i. link rs j (i + 1)) x k (j - 1) (omega arith) (first-none (λ i. link rs j (i + 1)) k others) (ap (link rs j) back ∙ is)
 
 -- what was found first was found somewhere

@@ -90,7 +90,7 @@ pub data Stands (rs : List Record) : ℕ → Place → Type 0 where
   first : Stands rs 1 (record { enclosing = 0; depth = 1 })
   next : {k : ℕ} {p : Place} (j : ℕ) → 1 ≤ j → Stands rs k p → record-at rs k .next ≡ j → Stands rs j p
   branch : {k : ℕ} {p : Place} (j : ℕ) → 1 ≤ j → Stands rs k p → (branches (record-at rs k .form) .0 ≡ j) ⊎ (branches (record-at rs k .form) .1 ≡ j)
-    → Stands rs j (record { enclosing = k; depth = p .depth + 1 })
+      → Stands rs j (record { enclosing = k; depth = p .depth + 1 })
 
 -- record k stands at one place, which is the one computed
 abbrev pub Stands-once : List Record → ℕ → Type 0

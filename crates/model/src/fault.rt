@@ -58,6 +58,10 @@ pub impl From<SessionFault> for Refusal as SessionRefusal {
     ghost converts = { λ f r. r ≡ session-refusal-of f };
 
     fn from(f: SessionFault) -> Refusal {
-        Refusal { layer: Layer::Session, number: f.number(), place: f.place() }
+        Refusal {
+            layer: Layer::Session,
+            number: f.number(),
+            place: f.place(),
+        }
     }
 }

@@ -62,7 +62,7 @@ module _ (bs : List ℕ) (fits : Bytes bs) (r : Result (Unit {0}) SheetFault) (i
   }
 
 module _ (vs : List Variable) (rs : List Record) (before : List ℕ) (r : Result ℕ SheetFault) (after : List ℕ)
-  (is : r ≡ answer (layout-refusal vs rs (length before)) (length (sheet-bytes vs rs))) (left : after ≡ laid-over vs rs before) where
+    (is : r ≡ answer (layout-refusal vs rs (length before)) (length (sheet-bytes vs rs))) (left : after ≡ laid-over vs rs before) where
   goes : Within-limits vs rs → length (sheet-bytes vs rs) ≤ length before → layout-refusal vs rs (length before) ≡ None
   goes fit room =
       layout-fits vs rs (length before) (counted vs rs (fit .some-variable) (fit .few-variables) (fit .some-record) (fit .few-records) ∙ reads-back vs rs fit .0) room

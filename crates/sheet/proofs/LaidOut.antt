@@ -30,11 +30,11 @@ part-fits : (bs : List ℕ) (p n : ℕ) → Bytes bs → Bytes (part bs p n)
 part-fits bs p n fits i =
     subst (λ l. byte l i < 256) (sym (cut bs p n))
     (⊎-elim
-      (λ h. let P : ℕ → Type 0 = λ b. b < 256 in subst P (sym (getD-take n (drop p bs) i 0 h ∙ getD-drop p bs i 0)) (fits (p + i)))
-      (λ (h : n ≤ i).
-        let short : length (take n (drop p bs)) ≤ i = simp length-take (omega arith) in
-        let P : ℕ → Type 0 = λ b. b < 256 in subst P (sym (getD-past (take n (drop p bs)) i 0 short)) (omega arith))
-      (cases-lt i n))
+    (λ h. let P : ℕ → Type 0 = λ b. b < 256 in subst P (sym (getD-take n (drop p bs) i 0 h ∙ getD-drop p bs i 0)) (fits (p + i)))
+    (λ (h : n ≤ i).
+    let short : length (take n (drop p bs)) ≤ i = simp length-take (omega arith) in
+    let P : ℕ → Type 0 = λ b. b < 256 in subst P (sym (getD-past (take n (drop p bs)) i 0 short)) (omega arith))
+    (cases-lt i n))
 
 part-long : (bs : List ℕ) (p n : ℕ) → p + n ≤ length bs → length (part bs p n) ≡ n
 part-long bs p n h = ap length (cut bs p n) ∙ simp (length-take, length-drop) (omega arith)
@@ -67,8 +67,8 @@ module _ (bs : List ℕ) (fits : Bytes bs) (ok : sheet-refusal bs ≡ None) wher
       pieces variable-bytes 4 length-variable Variable-fits (take (4 * variable-count bs) (drop 4 bs)) (variable-count bs)
       (simp (length-take, length-drop) (omega arith))
       (λ k h.
-        let x = variable-from (variable-place k) (cells-below bs k) (variable-part bs k) (part-long bs (variable-place k) 4 (omega arith)) (part-fits bs (variable-place k) 4 fits) (each-variable k h) in
-        (x .0, x .1, inner (drop 4 bs) 4 (4 * k) (4 * variable-count bs) (omega arith) ∙ ap (take 4) (drop-drop (4 * k) 4 bs) ∙ sym (cut bs (variable-place k) 4) ∙ x .2))
+      let x = variable-from (variable-place k) (cells-below bs k) (variable-part bs k) (part-long bs (variable-place k) 4 (omega arith)) (part-fits bs (variable-place k) 4 fits) (each-variable k h) in
+      (x .0, x .1, inner (drop 4 bs) 4 (4 * k) (4 * variable-count bs) (omega arith) ∙ ap (take 4) (drop-drop (4 * k) 4 bs) ∙ sym (cut bs (variable-place k) 4) ∙ x .2))
 
   records : (rs : List Record) × (length rs ≡ record-count bs) × All Record-fits rs × (drop (4 * variable-count bs) (drop 4 bs) ≡ joined record-bytes rs)
   records =
@@ -76,8 +76,8 @@ module _ (bs : List ℕ) (fits : Bytes bs) (ok : sheet-refusal bs ≡ None) wher
       pieces record-bytes 12 length-record Record-fits (drop (4 * variable-count bs) (drop 4 bs)) (record-count bs)
       (simp length-drop (omega arith))
       (λ k h.
-        let x = record-from (record-place (variable-count bs) k) (record-part bs (variable-count bs) k) (part-long bs (record-place (variable-count bs) k) 12 (omega arith)) (part-fits bs (record-place (variable-count bs) k) 12 fits) (each-record k h) in
-        (x .0, x .1, ap (λ l. take 12 (drop (12 * k) l)) (drop-drop (4 * variable-count bs) 4 bs) ∙ ap (take 12) (drop-drop (12 * k) (4 + 4 * variable-count bs) bs) ∙ sym (cut bs (record-place (variable-count bs) k) 12) ∙ x .2))
+      let x = record-from (record-place (variable-count bs) k) (record-part bs (variable-count bs) k) (part-long bs (record-place (variable-count bs) k) 12 (omega arith)) (part-fits bs (record-place (variable-count bs) k) 12 fits) (each-record k h) in
+      (x .0, x .1, ap (λ l. take 12 (drop (12 * k) l)) (drop-drop (4 * variable-count bs) 4 bs) ∙ ap (take 12) (drop-drop (12 * k) (4 + 4 * variable-count bs) bs) ∙ sym (cut bs (record-place (variable-count bs) k) 12) ∙ x .2))
 
   four : take 4 bs ≡ byte bs 0 ∷ byte bs 1 ∷ byte bs 2 ∷ byte bs 3 ∷ []
   four =
@@ -103,16 +103,15 @@ module _ (bs : List ℕ) (fits : Bytes bs) (ok : sheet-refusal bs ≡ None) wher
   total [] rs e all is = omega arith
   total (x ∷ xs) rs e all is =
       let c : cells-below bs (length (x ∷ xs)) ≡ total-cells (x ∷ xs) =
-          ap (λ l. cells-below l (length (x ∷ xs))) is ∙ cells-so-far (x ∷ xs) rs all x (length (x ∷ xs)) (omega arith)
-          ∙ ap total-cells (take-all (length (x ∷ xs)) (x ∷ xs) (omega arith)) in
+      ap (λ l. cells-below l (length (x ∷ xs))) is ∙ cells-so-far (x ∷ xs) rs all x (length (x ∷ xs)) (omega arith)
+      ∙ ap total-cells (take-all (length (x ∷ xs)) (x ∷ xs) (omega arith)) in
       omega (arith, few (length (x ∷ xs)) (sym e) (omega arith))
 
   tables : (vs : List Variable) × (rs : List Record) × Within-limits vs rs × (bs ≡ sheet-bytes vs rs)
   tables =
       let h = known in
       let n = variables .1 in
-      let m = records .1 in
-      (
+      let m = records .1 in (
         variables .0,
         records .0,
         record {

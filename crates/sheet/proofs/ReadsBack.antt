@@ -68,11 +68,11 @@ module _ (vs : List Variable) (rs : List Record) where
   record-part-is k d h =
       cut bs (record-place (length vs) k) 12
       ∙ ap (take 12) (
-          sym (drop-drop (12 * k) (4 + 4 * length vs) bs)
-          ∙ ap (drop (12 * k)) (
-              sym (drop-drop (4 * length vs) 4 bs)
-              ∙ drop-at (joined variable-bytes vs) (joined record-bytes rs) (4 * length vs) (length-joined variable-bytes 4 length-variable vs)
-              ∙ sym (append-nil (joined record-bytes rs))))
+      sym (drop-drop (12 * k) (4 + 4 * length vs) bs)
+      ∙ ap (drop (12 * k)) (
+      sym (drop-drop (4 * length vs) 4 bs)
+      ∙ drop-at (joined variable-bytes vs) (joined record-bytes rs) (4 * length vs) (length-joined variable-bytes 4 length-variable vs)
+      ∙ sym (append-nil (joined record-bytes rs))))
       ∙ piece record-bytes 12 length-record rs [] k d h
 
   record-count-is : length rs ≤ 512 → record-count (sheet-bytes vs rs) ≡ length rs
@@ -132,10 +132,10 @@ module _ (vs : List Variable) (rs : List Record) where
               (cases-lt k (length vs));
           records = λ k. ⊎-elim
               (λ h.
-                  let at : k + 1 - 1 ≡ k = omega arith in
-                  record-here (sheet-bytes vs rs) (length vs) (k + 1) refl (omega arith) (omega arith)
-                  ∙ ap (λ i. record-of (record-part (sheet-bytes vs rs) (length vs) i)) at
-                  ∙ ap record-of (record-part-is k e h) ∙ record-back (getD rs k e) (all-at Record-fits rs (fit .records) k e h) ∙ sym (nth-getD rs k e h))
+              let at : k + 1 - 1 ≡ k = omega arith in
+              record-here (sheet-bytes vs rs) (length vs) (k + 1) refl (omega arith) (omega arith)
+              ∙ ap (λ i. record-of (record-part (sheet-bytes vs rs) (length vs) i)) at
+              ∙ ap record-of (record-part-is k e h) ∙ record-back (getD rs k e) (all-at Record-fits rs (fit .records) k e h) ∙ sym (nth-getD rs k e h))
               (λ h. record-past (sheet-bytes vs rs) (k + 1) (omega arith) ∙ sym (nth-past rs k h))
               (cases-lt k (length rs));
         }

@@ -37,7 +37,7 @@ module _ (vs : List Variable) (rs : List Record) where
 
   -- the check of variable k, whose bytes are part
   module _ (k : ℕ) (d : Variable) (part : List ℕ) (total : ℕ) (h : k < length vs) (is : part ≡ variable-bytes (getD vs k d))
-    (sum : total ≡ cells-below (sheet-bytes vs rs) k) (clear : variables-refusal (sheet-bytes vs rs) k ≡ None) where
+      (sum : total ≡ cells-below (sheet-bytes vs rs) k) (clear : variables-refusal (sheet-bytes vs rs) k ≡ None) where
     bytes : part ≡ variable-part (sheet-bytes vs rs) k
     bytes = is ∙ sym (variable-part-is vs rs k d h)
 
@@ -49,7 +49,7 @@ module _ (vs : List Variable) (rs : List Record) where
     stops f e = first-stop _ f k (length vs) h clear (sym same ∙ e)
 
     pub goes-on : (next : ℕ) → variable-refusal (variable-place k) total part ≡ None → next ≡ total + word16 part 2
-      → (next ≡ cells-below (sheet-bytes vs rs) (k + 1)) × (next ≤ 16384) × (variables-refusal (sheet-bytes vs rs) (k + 1) ≡ None)
+        → (next ≡ cells-below (sheet-bytes vs rs) (k + 1)) × (next ≤ 16384) × (variables-refusal (sheet-bytes vs rs) (k + 1) ≡ None)
     unfolding variables-refusal
     goes-on next e add = (
       add ∙ (λ i. sum i + word16 (bytes i) 2) ∙ sym (ap (cells-below (sheet-bytes vs rs)) (add-one k)),

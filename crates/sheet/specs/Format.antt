@@ -105,17 +105,17 @@ record-of p = mapped (λ f. record { label = byte p 1; next = word16 p 6; form =
 abbrev pub uses : ℕ → List ℕ
 uses form =
     getD
-    ( []                                  -- skip
-    ∷ (2 ∷ 3 ∷ [])                        -- x := a
-    ∷ (2 ∷ 8 ∷ 9 ∷ 10 ∷ 11 ∷ [])          -- x := constant
-    ∷ (2 ∷ 3 ∷ 4 ∷ 5 ∷ [])                -- x := a op b
-    ∷ (2 ∷ 3 ∷ 4 ∷ [])                    -- x := a[b]
-    ∷ (2 ∷ 3 ∷ 4 ∷ 5 ∷ [])                -- x := mux(a, b, c)
-    ∷ (2 ∷ 3 ∷ 4 ∷ [])                    -- x[a] := b
-    ∷ (3 ∷ 8 ∷ 9 ∷ 10 ∷ 11 ∷ [])          -- if a
-    ∷ (3 ∷ 8 ∷ 9 ∷ [])                    -- while a
-    ∷ (2 ∷ 3 ∷ [])                        -- x := declass(a)
-    ∷ (2 ∷ 3 ∷ [])                        -- x := oram(a)
+    ([]  -- skip
+    ∷ (2 ∷ 3 ∷ [])  -- x := a
+    ∷ (2 ∷ 8 ∷ 9 ∷ 10 ∷ 11 ∷ [])  -- x := constant
+    ∷ (2 ∷ 3 ∷ 4 ∷ 5 ∷ [])  -- x := a op b
+    ∷ (2 ∷ 3 ∷ 4 ∷ [])  -- x := a[b]
+    ∷ (2 ∷ 3 ∷ 4 ∷ 5 ∷ [])  -- x := mux(a, b, c)
+    ∷ (2 ∷ 3 ∷ 4 ∷ [])  -- x[a] := b
+    ∷ (3 ∷ 8 ∷ 9 ∷ 10 ∷ 11 ∷ [])  -- if a
+    ∷ (3 ∷ 8 ∷ 9 ∷ [])  -- while a
+    ∷ (2 ∷ 3 ∷ [])  -- x := declass(a)
+    ∷ (2 ∷ 3 ∷ [])  -- x := oram(a)
     ∷ []) form []
 
 abbrev pub member : ℕ → List ℕ → Bool

@@ -79,6 +79,10 @@ pub impl From<SheetFault> for Refusal as SheetRefusal {
     ghost converts = { λ f r. r ≡ sheet-refusal-of f };
 
     fn from(f: SheetFault) -> Refusal {
-        Refusal { layer: Layer::Sheet, number: f.number(), place: f.place() }
+        Refusal {
+            layer: Layer::Sheet,
+            number: f.number(),
+            place: f.place(),
+        }
     }
 }

@@ -5,11 +5,11 @@ ghost use Rattle.sheet.specs.Format.{sheet-bytes};
 ghost use Rattle.refusal.specs.Answers.{answer};
 ghost use Rattle.sheet.specs.Exact.{Lays-exactly};
 ghost use Rattle.sheet.specs.Layout.{tables-refusal, layout-refusal, laid-over};
+use crate::encode::variable_bytes;
 use crate::faults::SheetFault;
 use crate::reading::check_variable;
 use crate::tables::Record;
 use crate::tables::Variable;
-use crate::encode::variable_bytes;
 use crate::writing::write_sheet;
 
 // Whether the tables have a sheet.
@@ -31,7 +31,11 @@ fn check_tables(variables: &[Variable], records: &[Record]) -> Result<(), SheetF
 }
 
 // Writes the sheet of the tables to the beginning of `out`, and answers its length.
-pub fn lay_out(variables: &[Variable], records: &[Record], out: &mut [u8]) -> Result<usize, SheetFault>
+pub fn lay_out(
+    variables: &[Variable],
+    records: &[Record],
+    out: &mut [u8],
+) -> Result<usize, SheetFault>
     ensures answers { λ r. ⌜ r ≡ answer (layout-refusal (now (variables .entry)) (now (records .entry)) (length (now (out .entry)))) (length (sheet-bytes (now (variables .entry)) (now (records .entry)))) ⌝ }
     ensures after { λ _. ⌜ now (out .exit) ≡ laid-over (now (variables .entry)) (now (records .entry)) (now (out .entry)) ⌝ }
     ensures exact { λ r. ⌜ Lays-exactly (now (variables .entry)) (now (records .entry)) (now (out .entry)) r (now (out .exit)) ⌝ }
@@ -39,7 +43,11 @@ pub fn lay_out(variables: &[Variable], records: &[Record], out: &mut [u8]) -> Re
     lay_tables(variables, records, out)
 }
 
-fn lay_tables(variables: &[Variable], records: &[Record], out: &mut [u8]) -> Result<usize, SheetFault>
+fn lay_tables(
+    variables: &[Variable],
+    records: &[Record],
+    out: &mut [u8],
+) -> Result<usize, SheetFault>
     ensures answers { λ r. ⌜ r ≡ answer (layout-refusal (now (variables .entry)) (now (records .entry)) (length (now (out .entry)))) (length (sheet-bytes (now (variables .entry)) (now (records .entry)))) ⌝ }
     ensures after { λ _. ⌜ now (out .exit) ≡ laid-over (now (variables .entry)) (now (records .entry)) (now (out .entry)) ⌝ }
 {

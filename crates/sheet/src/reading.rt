@@ -10,7 +10,6 @@ use crate::codec::used;
 use crate::faults::SheetFault;
 use crate::tables::Op;
 
-
 // The header: how many variables and records there are.
 fn check_header(bytes: &[u8]) -> Result<(usize, usize), SheetFault>
     ensures { λ r. ⌜ r ≡ answer (header-refusal (now (bytes .entry))) (variable-count (now (bytes .entry)), record-count (now (bytes .entry))) ⌝ }
@@ -45,7 +44,11 @@ pub(crate) fn check_variable(part: &[u8], p: usize, before: usize) -> Result<usi
     if kind > 1 {
         return Err(SheetFault::Kind(p));
     }
-    let fits = if kind == 0 { n == 0 } else { n >= 1 && n <= 4096 };
+    let fits = if kind == 0 {
+        n == 0
+    } else {
+        n >= 1 && n <= 4096
+    };
     if !fits {
         return Err(SheetFault::VariableLength(p + 2));
     }

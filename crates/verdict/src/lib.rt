@@ -54,7 +54,10 @@ fn read_and_accept<O: LabelOrder>(bytes: &[u8], order: O) -> Result<Sizes, Refus
     sheet.read(bytes)?;
     let mut program = Program::new(order);
     accept(&sheet, &order, &mut program)?;
-    Ok(Sizes { variables: sheet.variables(), records: sheet.records() })
+    Ok(Sizes {
+        variables: sheet.variables(),
+        records: sheet.records(),
+    })
 }
 
 // The verdict under the two-party order, as one line without its end.

@@ -6,7 +6,7 @@ use lib.ListN.{length}
 use Rattle.std.proofs.shelf.Tests.{le-leb, lt-leb}
 use Rattle.refusal.specs.Answers.{answer}
 use Rattle.model.specs.declared.place.Place.{Place}
-use Rattle.checker.specs.declared.faults.ShapeFault.the-variants.{Depth}
+use Rattle.rules.specs.declared.faults.ShapeFault.the-variants.{Depth}
 use Rattle.model.specs.Nesting.{place}
 use Rattle.checker.specs.Checks.{depth-refusal}
 use Rattle.refusal.proofs.First.{test-stop, test-more}

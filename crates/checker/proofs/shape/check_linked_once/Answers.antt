@@ -5,7 +5,7 @@ use lib.Dec.{eqb}
 use lib.ListN.{length, getD-replicate}
 use Rattle.std.proofs.shelf.Tests.{eq-eqb, ne-eqb}
 use Rattle.refusal.specs.Answers.{answer}
-use Rattle.checker.specs.declared.faults.ShapeFault.the-variants.{LinkedOnce}
+use Rattle.rules.specs.declared.faults.ShapeFault.the-variants.{LinkedOnce}
 use Rattle.model.specs.Nesting.{times-linked}
 use Rattle.checker.specs.Checks.{once-refusal}
 use Rattle.refusal.proofs.First.{test-stop, test-more}

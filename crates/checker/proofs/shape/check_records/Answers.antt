@@ -3,7 +3,8 @@ use Prim.Native.Nat.{_+_}
 use lib.ListN.{length}
 use Rattle.refusal.proofs.First.{first-clear, first-stop}
 use Rattle.refusal.proofs.Answering.{accepted, refused, leaves}
-use Rattle.checker.specs.Checks.{record-refusal, records-refusal}
+use Rattle.rules.specs.Shape.{record-refusal}
+use Rattle.checker.specs.Checks.{records-refusal}
 use Rattle.checker.proofs.Tests.{entry}
 use Rattle.checker.proofs.shape.check_records.Needs as need
 

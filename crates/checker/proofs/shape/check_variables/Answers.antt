@@ -2,7 +2,7 @@ use mathlib.Core.Path.{_≡_, refl, sym, ap, _∙_}
 use lib.ListN.{length}
 use Rattle.refusal.specs.Answers.{answer}
 use Rattle.model.specs.Program.{variable-at, label-of}
-use Rattle.checker.specs.declared.faults.ShapeFault.the-variants.{VariableLabel}
+use Rattle.rules.specs.declared.faults.ShapeFault.the-variants.{VariableLabel}
 use Rattle.checker.specs.Checks.{variables-refusal}
 use Rattle.refusal.proofs.First.{test-stop, test-more}
 use Rattle.checker.proofs.shape.check_variables.Needs as need

@@ -23,8 +23,8 @@ returns-then-part-i-ne0 c =
 pub loop-i-again : need.loop-i-again
 loop-i-again c = first-clear _ (c .loop-i .i) (c .loop-i .inv) (
     elim (c .else-not-used .came) [
-      else-not-used·by·then-not-used·else-part-i-ne0 w ↦ byte-zero (c .args .p) (c .args .part .now) (c .loop-i .i) (w .if-part-i-ne0 .left)
-    | else-not-used·by·else-not-used w ↦ byte-used (c .args .p) (c .args .part .now) (c .loop-i .i) (sym (c .used .ensures) ∙ w .if-not-used .left)
+      | else-not-used·by·then-not-used·else-part-i-ne0 w ↦ byte-zero (c .args .p) (c .args .part .now) (c .loop-i .i) (w .if-part-i-ne0 .left)
+      | else-not-used·by·else-not-used w ↦ byte-used (c .args .p) (c .args .part .now) (c .loop-i .i) (sym (c .used .ensures) ∙ w .if-not-used .left)
     ])
 
 pub returns-then-is-none : need.returns-then-is-none

@@ -25,8 +25,7 @@ unfolding variables-refusal variable-refusal
 loop-k-again c =
     let h = accepted _ _ _ (c .in-Continue-total .ensures tt) in
     let few : c .in-Continue-total .total ≤ 16384 = grind (arith, tells, h .0, h .1) in
-    let same = ap (λ b. variable-refusal (variable-place (c .loop-k .k)) b (variable-part (c .args .bytes .now) (c .loop-k .k))) (c .loop-k .inv .0) in
-    (
+    let same = ap (λ b. variable-refusal (variable-place (c .loop-k .k)) b (variable-part (c .args .bytes .now) (c .loop-k .k))) (c .loop-k .inv .0) in (
       h .1 ∙ ap (λ b. b + word16 (variable-part (c .args .bytes .now) (c .loop-k .k)) 2) (c .loop-k .inv .0) ∙ sym (ap (cells-below (c .args .bytes .now)) (add-one (c .loop-k .k))),
       few,
       first-clear _ (c .loop-k .k) (c .loop-k .inv .2) (sym same ∙ h .0),

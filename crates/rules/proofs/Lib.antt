@@ -1,0 +1,2 @@
+pub mod At
+pub mod Records
