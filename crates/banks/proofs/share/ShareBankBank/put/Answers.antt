@@ -4,8 +4,8 @@ use Rattle.std.proofs.shelf.Tests.{lt-ltb, le-ltb}
 use Rattle.banks.proofs.SharesLaws.{length-joined, joined-put, pad-step}
 use Rattle.banks.proofs.share.ShareBankBank.put.Needs as need
 
-pub returns-then-i-len : need.returns-then-i-len
-returns-then-i-len c = search (needs, joined-put, pad-step, lt-ltb)
+pub returns-then-i-pairs : need.returns-then-i-pairs
+returns-then-i-pairs c = search (needs, joined-put, pad-step, lt-ltb)
 
-pub returns-else-i-len : need.returns-else-i-len
-returns-else-i-len c = search (needs, set-past, length-joined, le-ltb)
+pub returns-else-i-pairs : need.returns-else-i-pairs
+returns-else-i-pairs c = search (needs, set-past, length-joined, le-ltb)

@@ -1,0 +1,12 @@
+pub mod Reading
+pub mod Laying
+pub mod Clearing
+pub mod Placing
+pub mod Copying
+pub mod StackLaws
+pub mod Sound
+pub mod Moving
+pub mod Stepping
+pub mod Running
+pub mod Calling
+pub mod Splitting
