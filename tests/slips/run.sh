@@ -29,7 +29,7 @@ try() { # TEXT ERROR
         echo "slips: $1: the slip passes"
         exit 1
     fi
-    if ! grep -q "$2" "$work/wrong.log"; then
+    if ! grep -qF "$2" "$work/wrong.log"; then
         tail -n 20 "$work/wrong.log"
         echo "slips: $1: refused, but not by $2"
         exit 1
@@ -37,5 +37,5 @@ try() { # TEXT ERROR
     echo "slips: $1: refused by $2, and the host without it passes"
 }
 
-try read_sheet_opens_no_session 'E0308'
-try accepted_program_opens_one_session 'E0382'
+try read_sheet_opens_no_session 'error[mismatched-types]: expected `Program'
+try accepted_program_opens_one_session 'error[borrow-e0382]: use of moved value: `program'

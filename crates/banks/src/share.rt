@@ -85,11 +85,7 @@ pub impl Bank for ShareBank as ShareBankBank {
         ensures words { λ _. ⌜ vec-items (now (self .exit) .words) ≡ vec-items (now (self .entry) .words) ⌝ }
         ensures pad { λ _. ⌜ now (self .exit) .pad ≡ now (self .entry) .pad ⌝ }
     {
-        if i < self.pairs() {
-            self.joined(i)
-        } else {
-            0
-        }
+        if i < self.pairs() { self.joined(i) } else { 0 }
     }
 
     fn put(&mut self, i: usize, value: u32)

@@ -2,7 +2,8 @@
 ghost use mathlib.Core.Path.{_≡_};
 ghost use Prim.Native.Nat.{_^_, _≤_};
 ghost use Rattle.labels.specs.Orders.{party-set};
-ghost use Rattle.labels.specs.Make.{map-ok, party-count};
+ghost use Rattle.refusal.specs.Answers.{map-ok};
+ghost use Rattle.labels.specs.Make.{party-count};
 use crate::fault::OrderFault;
 use crate::order::LabelOrder;
 

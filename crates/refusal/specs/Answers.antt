@@ -26,3 +26,8 @@ answer (Some fault) x = Err fault
 abbrev pub unless : {F S : Type 0} → Option F → S → S → S
 unless None before after = after
 unless (Some fault) before after = before
+
+-- the value seen through a view
+abbrev pub map-ok : {A B E : Type 0} → (A → B) → Result A E → Result B E
+map-ok f (Ok x) = Ok (f x)
+map-ok f (Err fault) = Err fault

@@ -39,14 +39,14 @@ module _ (L : Labels) (p : Program) where
       elim (cases-bool (ended c)) [
         | inl e ↦ run-ended L p (suc m) a c e ∙ sym (run-ended L p (suc m) b c e)
         | inr e ↦
-          let w = few c in
-          let one : suc m - 1 ≡ m = omega arith in
-          let deep = room-free m (a - length (written L p c)) (b - length (written L p c)) (step p c) (omega arith) (omega arith) in
-          run-step L p (suc m) a c e (omega arith) (omega arith)
-          ∙ ap (λ (k : ℕ). then-ran (written L p c) (steps L p k (a - length (written L p c)) (step p c))) one
-          ∙ ap (then-ran (written L p c)) deep
-          ∙ ap (λ (k : ℕ). then-ran (written L p c) (steps L p k (b - length (written L p c)) (step p c))) (sym one)
-          ∙ sym (run-step L p (suc m) b c e (omega arith) (omega arith))
+            let w = few c in
+            let one : suc m - 1 ≡ m = omega arith in
+            let deep = room-free m (a - length (written L p c)) (b - length (written L p c)) (step p c) (omega arith) (omega arith) in
+            run-step L p (suc m) a c e (omega arith) (omega arith)
+            ∙ ap (λ (k : ℕ). then-ran (written L p c) (steps L p k (a - length (written L p c)) (step p c))) one
+            ∙ ap (then-ran (written L p c)) deep
+            ∙ ap (λ (k : ℕ). then-ran (written L p c) (steps L p k (b - length (written L p c)) (step p c))) (sym one)
+            ∙ sym (run-step L p (suc m) b c e (omega arith) (omega arith))
       ]
 
   split : (n m all first second room : ℕ) (c : Config) → n + m ≡ all → 6 * all ≤ room → 6 * n ≤ first → 6 * m ≤ second →
@@ -55,26 +55,26 @@ module _ (L : Labels) (p : Program) where
       let same : m ≡ all = omega arith in
       elim (cases-bool (ended c)) [
         | inl e ↦
-          ap (λ (x : Ran). one-then x (steps L p m second (x .config))) (run-ended L p zero first c e)
-          ∙ joined-none (steps L p m second c) ∙ room-free m second room c s (omega arith) ∙ ap (λ (k : ℕ). steps L p k room c) same
+            ap (λ (x : Ran). one-then x (steps L p m second (x .config))) (run-ended L p zero first c e)
+            ∙ joined-none (steps L p m second c) ∙ room-free m second room c s (omega arith) ∙ ap (λ (k : ℕ). steps L p k room c) same
         | inr e ↦
-          ap (λ (x : Ran). one-then x (steps L p m second (x .config))) (run-spent L p zero first c e refl)
-          ∙ joined-none (steps L p m second c) ∙ room-free m second room c s (omega arith) ∙ ap (λ (k : ℕ). steps L p k room c) same
+            ap (λ (x : Ran). one-then x (steps L p m second (x .config))) (run-spent L p zero first c e refl)
+            ∙ joined-none (steps L p m second c) ∙ room-free m second room c s (omega arith) ∙ ap (λ (k : ℕ). steps L p k room c) same
       ]
   split (suc n) m all first second room c sum r f s =
       elim (cases-bool (ended c)) [
         | inl e ↦
-          ap (λ (x : Ran). one-then x (steps L p m second (x .config))) (run-ended L p (suc n) first c e)
-          ∙ joined-none (steps L p m second c) ∙ run-ended L p m second c e ∙ sym (run-ended L p all room c e)
+            ap (λ (x : Ran). one-then x (steps L p m second (x .config))) (run-ended L p (suc n) first c e)
+            ∙ joined-none (steps L p m second c) ∙ run-ended L p m second c e ∙ sym (run-ended L p all room c e)
         | inr e ↦
-          let w = few c in
-          let one : suc n - 1 ≡ n = omega arith in
-          let deep = split n m (all - 1) (first - length (written L p c)) second (room - length (written L p c)) (step p c) (omega arith) (omega arith) (omega arith) s in
-          ap (λ (x : Ran). one-then x (steps L p m second (x .config)))
-              (run-step L p (suc n) first c e (omega arith) (omega arith) ∙ ap (λ (k : ℕ). then-ran (written L p c) (steps L p k (first - length (written L p c)) (step p c))) one)
-          ∙ after-step (written L p c) (steps L p n (first - length (written L p c)) (step p c)) (steps L p m second (steps L p n (first - length (written L p c)) (step p c) .config))
-          ∙ ap (then-ran (written L p c)) deep
-          ∙ sym (run-step L p all room c e (omega arith) (omega arith))
+            let w = few c in
+            let one : suc n - 1 ≡ n = omega arith in
+            let deep = split n m (all - 1) (first - length (written L p c)) second (room - length (written L p c)) (step p c) (omega arith) (omega arith) (omega arith) s in
+            ap (λ (x : Ran). one-then x (steps L p m second (x .config)))
+            (run-step L p (suc n) first c e (omega arith) (omega arith) ∙ ap (λ (k : ℕ). then-ran (written L p c) (steps L p k (first - length (written L p c)) (step p c))) one)
+            ∙ after-step (written L p c) (steps L p n (first - length (written L p c)) (step p c)) (steps L p m second (steps L p n (first - length (written L p c)) (step p c) .config))
+            ∙ ap (then-ran (written L p c)) deep
+            ∙ sym (run-step L p all room c e (omega arith) (omega arith))
       ]
 
   pub in-pieces : (c : Config) (all room : ℕ) → In-pieces L p c all room

@@ -4,6 +4,7 @@ ghost use Prim.Native.Nat.{_+_, _≤_};
 ghost use lib.ListN.{length};
 ghost use Rattle.session.specs.Memories.{tables-of, order-of, memory-of};
 ghost use Rattle.session.specs.Acting.{Acts, Runs};
+use crate::memory::Memory;
 use crate::noting::fetch_entry;
 use crate::noting::instruction_entry;
 use crate::noting::name_entry;
@@ -16,13 +17,20 @@ use crate::values::apply;
 use crate::values::mux;
 use banks::Bank;
 use labels::LabelOrder;
-use crate::memory::Memory;
 use sheet::Form;
 use sheet::Op;
 use tape::Entry;
 
 // x := a.
-fn copy<O: LabelOrder, B: Bank>(memory: &mut Memory<O, B>, n: u16, label: u8, x: u8, a: u8, tape: &mut [Entry], at: usize) -> usize
+fn copy<O: LabelOrder, B: Bank>(
+    memory: &mut Memory<O, B>,
+    n: u16,
+    label: u8,
+    x: u8,
+    a: u8,
+    tape: &mut [Entry],
+    at: usize,
+) -> usize
     requires { ⌜ Runs (tables-of (now memory)) (Form.Copy x a) ⌝ ∗ ⌜ at + 6 ≤ length (now tape) ⌝ }
     ensures acts { λ r. ⌜ Acts (meaning (order-of (now (memory .entry)))) (tables-of (now (memory .entry))) n label (Form.Copy x a) (memory-of cells (now (memory .entry))) (memory-of cells (now (memory .exit))) (now (tape .entry)) (now (tape .exit)) at r ⌝ }
     ensures program { λ _. ⌜ now (memory .exit) .program ≡ now (memory .entry) .program ⌝ }
@@ -35,7 +43,15 @@ fn copy<O: LabelOrder, B: Bank>(memory: &mut Memory<O, B>, n: u16, label: u8, x:
 }
 
 // x := value.
-fn constant<O: LabelOrder, B: Bank>(memory: &mut Memory<O, B>, n: u16, label: u8, x: u8, value: u32, tape: &mut [Entry], at: usize) -> usize
+fn constant<O: LabelOrder, B: Bank>(
+    memory: &mut Memory<O, B>,
+    n: u16,
+    label: u8,
+    x: u8,
+    value: u32,
+    tape: &mut [Entry],
+    at: usize,
+) -> usize
     requires { ⌜ Runs (tables-of (now memory)) (Form.Constant x value) ⌝ ∗ ⌜ at + 6 ≤ length (now tape) ⌝ }
     ensures acts { λ r. ⌜ Acts (meaning (order-of (now (memory .entry)))) (tables-of (now (memory .entry))) n label (Form.Constant x value) (memory-of cells (now (memory .entry))) (memory-of cells (now (memory .exit))) (now (tape .entry)) (now (tape .exit)) at r ⌝ }
     ensures program { λ _. ⌜ now (memory .exit) .program ≡ now (memory .entry) .program ⌝ }
@@ -46,7 +62,17 @@ fn constant<O: LabelOrder, B: Bank>(memory: &mut Memory<O, B>, n: u16, label: u8
 }
 
 // x := a op b.
-fn binary<O: LabelOrder, B: Bank>(memory: &mut Memory<O, B>, n: u16, label: u8, x: u8, a: u8, b: u8, op: Op, tape: &mut [Entry], at: usize) -> usize
+fn binary<O: LabelOrder, B: Bank>(
+    memory: &mut Memory<O, B>,
+    n: u16,
+    label: u8,
+    x: u8,
+    a: u8,
+    b: u8,
+    op: Op,
+    tape: &mut [Entry],
+    at: usize,
+) -> usize
     requires { ⌜ Runs (tables-of (now memory)) (Form.Binary x a b op) ⌝ ∗ ⌜ at + 6 ≤ length (now tape) ⌝ }
     ensures acts { λ r. ⌜ Acts (meaning (order-of (now (memory .entry)))) (tables-of (now (memory .entry))) n label (Form.Binary x a b op) (memory-of cells (now (memory .entry))) (memory-of cells (now (memory .exit))) (now (tape .entry)) (now (tape .exit)) at r ⌝ }
     ensures program { λ _. ⌜ now (memory .exit) .program ≡ now (memory .entry) .program ⌝ }
@@ -62,7 +88,16 @@ fn binary<O: LabelOrder, B: Bank>(memory: &mut Memory<O, B>, n: u16, label: u8, 
 }
 
 // x := a[b].
-fn fetch<O: LabelOrder, B: Bank>(memory: &mut Memory<O, B>, n: u16, label: u8, x: u8, a: u8, b: u8, tape: &mut [Entry], at: usize) -> usize
+fn fetch<O: LabelOrder, B: Bank>(
+    memory: &mut Memory<O, B>,
+    n: u16,
+    label: u8,
+    x: u8,
+    a: u8,
+    b: u8,
+    tape: &mut [Entry],
+    at: usize,
+) -> usize
     requires { ⌜ Runs (tables-of (now memory)) (Form.Fetch x a b) ⌝ ∗ ⌜ at + 6 ≤ length (now tape) ⌝ }
     ensures acts { λ r. ⌜ Acts (meaning (order-of (now (memory .entry)))) (tables-of (now (memory .entry))) n label (Form.Fetch x a b) (memory-of cells (now (memory .entry))) (memory-of cells (now (memory .exit))) (now (tape .entry)) (now (tape .exit)) at r ⌝ }
     ensures program { λ _. ⌜ now (memory .exit) .program ≡ now (memory .entry) .program ⌝ }
@@ -77,7 +112,17 @@ fn fetch<O: LabelOrder, B: Bank>(memory: &mut Memory<O, B>, n: u16, label: u8, x
 }
 
 // x := mux(a, b, c).
-fn choose<O: LabelOrder, B: Bank>(memory: &mut Memory<O, B>, n: u16, label: u8, x: u8, a: u8, b: u8, c: u8, tape: &mut [Entry], at: usize) -> usize
+fn choose<O: LabelOrder, B: Bank>(
+    memory: &mut Memory<O, B>,
+    n: u16,
+    label: u8,
+    x: u8,
+    a: u8,
+    b: u8,
+    c: u8,
+    tape: &mut [Entry],
+    at: usize,
+) -> usize
     requires { ⌜ Runs (tables-of (now memory)) (Form.Mux x a b c) ⌝ ∗ ⌜ at + 6 ≤ length (now tape) ⌝ }
     ensures acts { λ r. ⌜ Acts (meaning (order-of (now (memory .entry)))) (tables-of (now (memory .entry))) n label (Form.Mux x a b c) (memory-of cells (now (memory .entry))) (memory-of cells (now (memory .exit))) (now (tape .entry)) (now (tape .exit)) at r ⌝ }
     ensures program { λ _. ⌜ now (memory .exit) .program ≡ now (memory .entry) .program ⌝ }
@@ -95,7 +140,16 @@ fn choose<O: LabelOrder, B: Bank>(memory: &mut Memory<O, B>, n: u16, label: u8, 
 }
 
 // x[a] := b.
-fn store<O: LabelOrder, B: Bank>(memory: &mut Memory<O, B>, n: u16, label: u8, x: u8, a: u8, b: u8, tape: &mut [Entry], at: usize) -> usize
+fn store<O: LabelOrder, B: Bank>(
+    memory: &mut Memory<O, B>,
+    n: u16,
+    label: u8,
+    x: u8,
+    a: u8,
+    b: u8,
+    tape: &mut [Entry],
+    at: usize,
+) -> usize
     requires { ⌜ Runs (tables-of (now memory)) (Form.Store x a b) ⌝ ∗ ⌜ at + 6 ≤ length (now tape) ⌝ }
     ensures acts { λ r. ⌜ Acts (meaning (order-of (now (memory .entry)))) (tables-of (now (memory .entry))) n label (Form.Store x a b) (memory-of cells (now (memory .entry))) (memory-of cells (now (memory .exit))) (now (tape .entry)) (now (tape .exit)) at r ⌝ }
     ensures program { λ _. ⌜ now (memory .exit) .program ≡ now (memory .entry) .program ⌝ }
@@ -110,7 +164,15 @@ fn store<O: LabelOrder, B: Bank>(memory: &mut Memory<O, B>, n: u16, label: u8, x
 }
 
 // x := declass(a).
-fn declass<O: LabelOrder, B: Bank>(memory: &mut Memory<O, B>, n: u16, label: u8, x: u8, a: u8, tape: &mut [Entry], at: usize) -> usize
+fn declass<O: LabelOrder, B: Bank>(
+    memory: &mut Memory<O, B>,
+    n: u16,
+    label: u8,
+    x: u8,
+    a: u8,
+    tape: &mut [Entry],
+    at: usize,
+) -> usize
     requires { ⌜ Runs (tables-of (now memory)) (Form.Declass x a) ⌝ ∗ ⌜ at + 6 ≤ length (now tape) ⌝ }
     ensures acts { λ r. ⌜ Acts (meaning (order-of (now (memory .entry)))) (tables-of (now (memory .entry))) n label (Form.Declass x a) (memory-of cells (now (memory .entry))) (memory-of cells (now (memory .exit))) (now (tape .entry)) (now (tape .exit)) at r ⌝ }
     ensures program { λ _. ⌜ now (memory .exit) .program ≡ now (memory .entry) .program ⌝ }
@@ -124,7 +186,15 @@ fn declass<O: LabelOrder, B: Bank>(memory: &mut Memory<O, B>, n: u16, label: u8,
 }
 
 // x := oram(a).
-fn oram<O: LabelOrder, B: Bank>(memory: &mut Memory<O, B>, n: u16, label: u8, x: u8, a: u8, tape: &mut [Entry], at: usize) -> usize
+fn oram<O: LabelOrder, B: Bank>(
+    memory: &mut Memory<O, B>,
+    n: u16,
+    label: u8,
+    x: u8,
+    a: u8,
+    tape: &mut [Entry],
+    at: usize,
+) -> usize
     requires { ⌜ Runs (tables-of (now memory)) (Form.Oram x a) ⌝ ∗ ⌜ at + 6 ≤ length (now tape) ⌝ }
     ensures acts { λ r. ⌜ Acts (meaning (order-of (now (memory .entry)))) (tables-of (now (memory .entry))) n label (Form.Oram x a) (memory-of cells (now (memory .entry))) (memory-of cells (now (memory .exit))) (now (tape .entry)) (now (tape .exit)) at r ⌝ }
     ensures program { λ _. ⌜ now (memory .exit) .program ≡ now (memory .entry) .program ⌝ }
@@ -138,7 +208,14 @@ fn oram<O: LabelOrder, B: Bank>(memory: &mut Memory<O, B>, n: u16, label: u8, x:
 }
 
 // The guard of an if or a while: it is read, and nothing is changed.
-fn guard<O: LabelOrder, B: Bank>(memory: &Memory<O, B>, n: u16, label: u8, a: u8, tape: &mut [Entry], at: usize) -> usize
+fn guard<O: LabelOrder, B: Bank>(
+    memory: &Memory<O, B>,
+    n: u16,
+    label: u8,
+    a: u8,
+    tape: &mut [Entry],
+    at: usize,
+) -> usize
     requires { ⌜ Runs (tables-of (now memory)) (Form.While a 0) ⌝ ∗ ⌜ at + 6 ≤ length (now tape) ⌝ }
     ensures { λ r. ⌜ Acts (meaning (order-of (now (memory .entry)))) (tables-of (now (memory .entry))) n label (Form.While a 0) (memory-of cells (now (memory .entry))) (memory-of cells (now (memory .entry))) (now (tape .entry)) (now (tape .exit)) at r ⌝ }
 {
@@ -149,7 +226,14 @@ fn guard<O: LabelOrder, B: Bank>(memory: &Memory<O, B>, n: u16, label: u8, a: u8
 
 // What record n, with this label and form, does besides its place on the stack: it writes its entries from `at` on,
 // and answers the next place.
-pub(crate) fn act<O: LabelOrder, B: Bank>(memory: &mut Memory<O, B>, n: u16, label: u8, form: Form, tape: &mut [Entry], at: usize) -> usize
+pub(crate) fn act<O: LabelOrder, B: Bank>(
+    memory: &mut Memory<O, B>,
+    n: u16,
+    label: u8,
+    form: Form,
+    tape: &mut [Entry],
+    at: usize,
+) -> usize
     requires { ⌜ Runs (tables-of (now memory)) form ⌝ ∗ ⌜ at + 6 ≤ length (now tape) ⌝ }
     ensures acts { λ r. ⌜ Acts (meaning (order-of (now (memory .entry)))) (tables-of (now (memory .entry))) n label form (memory-of cells (now (memory .entry))) (memory-of cells (now (memory .exit))) (now (tape .entry)) (now (tape .exit)) at r ⌝ }
     ensures program { λ _. ⌜ now (memory .exit) .program ≡ now (memory .entry) .program ⌝ }

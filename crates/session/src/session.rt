@@ -4,9 +4,9 @@ ghost use mathlib.Core.Path.{_≡_};
 ghost use Rattle.model.specs.Machine.{stripped};
 ghost use Rattle.session.specs.Stacks.{pile};
 ghost use Rattle.session.specs.Piles.{piled};
-use labels::LabelOrder;
 use crate::memory::Memory;
 use crate::stack::Stack;
+use labels::LabelOrder;
 
 // The records on the stack are higher than the places where they lie, since links rise, and no zero is on top.
 #[derive(Drop)]

@@ -39,10 +39,11 @@ impl<O: LabelOrder, B: Bank> Memory<O, B> {
     pub(crate) fn has_place(&self, v: u8, i: u32) -> bool
         ensures { λ r. ⌜ r ≡ has-place (tables-of (now (self .entry))) v i ⌝ }
     {
-        (v as usize) < self.program.variable_count() && match self.program.variable(v).kind {
-            Kind::Number => i == 0,
-            Kind::Array(n) => i < n as u32,
-        }
+        (v as usize) < self.program.variable_count()
+            && match self.program.variable(v).kind {
+                Kind::Number => i == 0,
+                Kind::Array(n) => i < n as u32,
+            }
     }
 
     // The cell of array v at index i; outside the array, one beyond the row.

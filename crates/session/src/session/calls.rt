@@ -9,15 +9,15 @@ ghost use Rattle.session.specs.Memories.{tables-of, order-of};
 ghost use Rattle.session.specs.Reports.{reported};
 ghost use Rattle.session.specs.Pieces.{In-pieces};
 ghost use Rattle.session.specs.States.{config-of, state-of, refusal-of, done, ran-of, access-fault};
+use crate::memory::Memory;
 use crate::report::RunReport;
 use crate::session::Session;
 use crate::session::runs::MOST_ENTRIES;
+use crate::stack::Stack;
 use banks::Bank;
 use checker::Program;
 use labels::LabelOrder;
-use crate::memory::Memory;
 use model::SessionFault;
-use crate::stack::Stack;
 use tape::Entry;
 
 impl<O: LabelOrder, B: Bank> Session<O, B> {
@@ -26,7 +26,11 @@ impl<O: LabelOrder, B: Bank> Session<O, B> {
         ensures state { λ r. ⌜ state-of cells r ≡ opened (contents program .tables) (cells bank) ⌝ }
         ensures program { λ r. ⌜ r .memory .program ≡ program ⌝ }
     {
-        Session { memory: Memory::new(program, bank), stack: Stack::new(1), started: false }
+        Session {
+            memory: Memory::new(program, bank),
+            stack: Stack::new(1),
+            started: false,
+        }
     }
 
     // May the party see the place?
@@ -47,7 +51,13 @@ impl<O: LabelOrder, B: Bank> Session<O, B> {
     }
 
     // Sets a variable, before the start, for a party to which its label is open.
-    pub fn enter(&mut self, party: u8, variable: u8, index: u32, value: u32) -> Result<(), SessionFault>
+    pub fn enter(
+        &mut self,
+        party: u8,
+        variable: u8,
+        index: u32,
+        value: u32,
+    ) -> Result<(), SessionFault>
         ensures answers { λ r. ⌜ r ≡ answer (refusal-of meaning cells (enter party variable index value) (now (self .entry))) tt ⌝ }
         ensures state { λ _. ⌜ state-of cells (now (self .exit)) ≡ done meaning cells (enter party variable index value) (now (self .entry)) .state ⌝ }
         ensures program { λ _. ⌜ now (self .exit) .memory .program ≡ now (self .entry) .memory .program ⌝ }

@@ -46,6 +46,10 @@ impl<O: LabelOrder, B: Bank> Session<O, B> {
         } else {
             Stop::Full
         };
-        RunReport { steps: taken, entries: at, stop }
+        RunReport {
+            steps: taken,
+            entries: at,
+            stop,
+        }
     }
 }

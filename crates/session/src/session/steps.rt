@@ -8,11 +8,11 @@ ghost use Rattle.session.specs.Memories.{tables-of, order-of, memory-of};
 ghost use Rattle.session.specs.Stacks.{pile};
 ghost use Rattle.session.specs.Piles.{moved};
 ghost use Rattle.session.specs.States.{config-of};
-use crate::session::Session;
 use crate::acting::act;
 use crate::noting::end_entry;
-use crate::values::holds;
 use crate::noting::note;
+use crate::session::Session;
+use crate::values::holds;
 use banks::Bank;
 use labels::LabelOrder;
 use sheet::Form;
@@ -26,10 +26,18 @@ impl<O: LabelOrder, B: Bank> Session<O, B> {
     {
         match form {
             Form::If { a, then, other } => {
-                let branch = if holds(self.memory.number(a)) { then } else { other };
+                let branch = if holds(self.memory.number(a)) {
+                    then
+                } else {
+                    other
+                };
                 (next, branch)
             }
-            Form::While { a, body } => if holds(self.memory.number(a)) { (n, body) } else { (next, 0) },
+            Form::While { a, body } => if holds(self.memory.number(a)) {
+                (n, body)
+            } else {
+                (next, 0)
+            },
             _ => (next, 0),
         }
     }

@@ -42,8 +42,8 @@ returns g c =
     let size = c .cells-n .ensures ∙ ap (λ (x : Variable). cells (x .kind)) (c .variable .ensures) in
     record {
       memory =
-        ap (λ (row : List ℕ). record { numbers = take (length (p .variables)) (me .numbers); cells = row })
-            (c .copy-cells .ensures ∙ (λ i. copied-cells (from i) (to i) (size i) (g .B·Bank .cells (me .bank))))
-        ∙ copied-is p (c .args .x) (c .args .a) (c .pre .variables .0) (c .pre .variables .1) (c .pre .arrays .0) (c .pre .arrays .1) (memory-of (g .B·Bank .cells) me) _;
+          ap (λ (row : List ℕ). record { numbers = take (length (p .variables)) (me .numbers); cells = row })
+          (c .copy-cells .ensures ∙ (λ i. copied-cells (from i) (to i) (size i) (g .B·Bank .cells (me .bank))))
+          ∙ copied-is p (c .args .x) (c .args .a) (c .pre .variables .0) (c .pre .variables .1) (c .pre .arrays .0) (c .pre .arrays .1) (memory-of (g .B·Bank .cells) me) _;
       program = refl;
     }

@@ -24,11 +24,12 @@ loop-v-again g c =
     let v = c .loop-v .v in
     let more = base-more p v in
     let size = c .cells .ensures ∙ ap (λ (x : Variable). cells (x .kind)) (c .variable .ensures) in
-    let same = inv .0 in
-    (omega (arith, inv .0, more, size),
+    let same = inv .0 in (
+      omega (arith, inv .0, more, size),
       omega (arith, inv .1),
       length-set (c .loop-v .starts) v (c .loop-v .start) ∙ inv .2,
-      λ k h. ap (λ (x : ℕ). getD (set (c .loop-v .starts) v x) k 0) same ∙ fill-by-more (base p) (c .loop-v .starts) v 0 (omega (arith, inv .2)) (inv .3) k h)
+      λ k h. ap (λ (x : ℕ). getD (set (c .loop-v .starts) v x) k 0) same ∙ fill-by-more (base p) (c .loop-v .starts) v 0 (omega (arith, inv .2)) (inv .3) k h,
+    )
 
 pub returns : need.returns
 unfolding first-cells

@@ -67,11 +67,11 @@ returns-else-taken-limit-2 g c =
     let L = g .O·LabelOrder .meaning (order-of (c .args .self .now .memory)) in
     let p = tables-of (c .args .self .now .memory) in
     let full : length (c .loop-self .tape) - c .loop-self .at < 6 =
-        elim (c .loop-self-test .came) [
-          | then-loop-self-test·then-taken-limit·else-tape-at-ge-MOST-ENTRIES w ↦ omega arith
-          | then-loop-self-test·else-taken-limit w ↦ omega arith
-          | else-loop-self-test w ↦ absurd (true≢false (w .loop-self-test .ensures tt ∙ sym (c .if-ended .ensures tt)))
-        ] in
+    elim (c .loop-self-test .came) [
+      | then-loop-self-test·then-taken-limit·else-tape-at-ge-MOST-ENTRIES w ↦ omega arith
+      | then-loop-self-test·else-taken-limit w ↦ omega arith
+      | else-loop-self-test w ↦ absurd (true≢false (w .loop-self-test .ensures tt ∙ sym (c .if-ended .ensures tt)))
+    ] in
     let done = run-full L p (c .args .limit - c .loop-self .taken) (length (c .loop-self .tape) - c .loop-self .at) now (sym (c .if-ended .ensures tt)) (omega arith) full in
     record {
       report = run-report (c .loop-self .tape) (c .args .tape .now) (c .loop-self .taken) (c .loop-self .at) Full now _ _ (inv .3) (inv .4) (inv .5) done;

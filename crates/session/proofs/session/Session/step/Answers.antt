@@ -40,11 +40,12 @@ ghost-self g c =
     let me = c .args .self .now in
     let m = memory-of (g .B·Bank .cells) (me .memory) in
     let is = c .record-taken .ensures ∙ ap (λ q. record-at (contents q .tables .records) (c .top-n .result)) (c .program .ensures) in
-    let go = c .advance .ensures ∙ ap (λ (t : ℕ × ℕ). stripped (t .1 ∷ (t .0 ∷ below-top (pile (me .stack))))) (c .moved-place .ensures) in
-    (ap (λ q. piled (q .«record_count») (pile (c .advance .last .self))) (c .act-next .ensures .program)
-      ∙ ap (piled (me .memory .program .«record_count»)) go
-      ∙ still-climbs (me .memory .program) m (pile (me .stack)) (c .top-n .result) (below-top (pile (me .stack))) (c .record-taken .result) (c .top-n .ensures) is (me .climbs) (me .clean),
-      (still-clean (pile (c .advance .last .self)) _ go, tt))
+    let go = c .advance .ensures ∙ ap (λ (t : ℕ × ℕ). stripped (t .1 ∷ (t .0 ∷ below-top (pile (me .stack))))) (c .moved-place .ensures) in (
+      ap (λ q. piled (q .«record_count») (pile (c .advance .last .self))) (c .act-next .ensures .program)
+          ∙ ap (piled (me .memory .program .«record_count»)) go
+          ∙ still-climbs (me .memory .program) m (pile (me .stack)) (c .top-n .result) (below-top (pile (me .stack))) (c .record-taken .result) (c .top-n .ensures) is (me .climbs) (me .clean),
+      (still-clean (pile (c .advance .last .self)) _ go, tt),
+    )
 
 pub returns-then-height-gt0 : need.returns-then-height-gt0
 returns-then-height-gt0 g c =
