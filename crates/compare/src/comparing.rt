@@ -27,7 +27,12 @@ use tape::Entry;
 use tape::pick;
 
 // The party's log of a tape.
-fn make_log<O: LabelOrder>(order: &O, party: u8, tape: &[Entry], heap: Global) -> Result<Vec<Entry>, CompareFault>
+fn make_log<O: LabelOrder>(
+    order: &O,
+    party: u8,
+    tape: &[Entry],
+    heap: Global,
+) -> Result<Vec<Entry>, CompareFault>
     ensures { λ r. ⌜ or-memory r (map-ok vec-items r ≡ picked-log (meaning (now (order .entry))) party (now (tape .entry))) ⌝ }
 {
     let mut log = Vec::new(heap);
@@ -38,7 +43,14 @@ fn make_log<O: LabelOrder>(order: &O, party: u8, tape: &[Entry], heap: Global) -
 }
 
 // The party's log of a session of the sheet's program over the bank, after some calls.
-fn log_session<O: LabelOrder, B: Bank + Drop>(sheet: &ReadSheet, order: &O, bank: B, calls: &[Call], party: u8, heap: Global) -> Result<Vec<Entry>, CompareFault>
+fn log_session<O: LabelOrder, B: Bank + Drop>(
+    sheet: &ReadSheet,
+    order: &O,
+    bank: B,
+    calls: &[Call],
+    party: u8,
+    heap: Global,
+) -> Result<Vec<Entry>, CompareFault>
     ensures log { λ r. ⌜ or-memory r (map-ok vec-items r ≡ logged (meaning (now (order .entry))) (sheet-program (now (now (sheet .entry) .bytes))) party (calls-of (now (calls .entry))) (cells bank)) ⌝ }
     ensures secrecy { λ r. ⌜ made r (λ _. Secrecy (meaning (now (order .entry))) (sheet-program (now (now (sheet .entry) .bytes)))) ⌝ }
 {
@@ -51,7 +63,16 @@ fn log_session<O: LabelOrder, B: Bank + Drop>(sheet: &ReadSheet, order: &O, bank
 
 // Accepts the sheet, opens a session over each bank, performs the calls of each, and answers the party's logs of both.
 // Where the calls start alike for the party, the two logs tell it no more than the values released to it.
-pub fn compare<O: LabelOrder, F: Bank + Drop, S: Bank + Drop>(sheet: &ReadSheet, order: &O, party: u8, first: F, calls: &[Call], second: S, others: &[Call], heap: Global) -> Result<Logs, CompareFault>
+pub fn compare<O: LabelOrder, F: Bank + Drop, S: Bank + Drop>(
+    sheet: &ReadSheet,
+    order: &O,
+    party: u8,
+    first: F,
+    calls: &[Call],
+    second: S,
+    others: &[Call],
+    heap: Global,
+) -> Result<Logs, CompareFault>
     ensures logs { λ r. ⌜ or-memory r (map-ok (λ l. (vec-items (l .first), vec-items (l .second))) r ≡ both (logged (meaning (now (order .entry))) (sheet-program (now (now (sheet .entry) .bytes))) party (calls-of (now (calls .entry))) (F·Bank .cells first)) (logged (meaning (now (order .entry))) (sheet-program (now (now (sheet .entry) .bytes))) party (calls-of (now (others .entry))) (S·Bank .cells second))) ⌝ }
     ensures secret { λ r. ⌜ made r (λ l. Compared (meaning (now (order .entry))) (sheet-program (now (now (sheet .entry) .bytes))) party (calls-of (now (calls .entry))) (F·Bank .cells first) (calls-of (now (others .entry))) (S·Bank .cells second) (vec-items (l .first)) (vec-items (l .second))) ⌝ }
 {

@@ -18,7 +18,14 @@ use std::alloc::AllocError;
 use std::alloc::Global;
 use tape::Entry;
 
-pub(crate) const BLANK: Entry = Entry { kind: 0, label: 0, record: 0, variable: 0, index: 0, value: 0 };
+pub(crate) const BLANK: Entry = Entry {
+    kind: 0,
+    label: 0,
+    record: 0,
+    variable: 0,
+    index: 0,
+    value: 0,
+};
 
 // Keeps the entries that a run wrote; none where it was refused.
 fn keep(tape: &mut Vec<Entry>, answer: Result<RunReport, SessionFault>)
@@ -31,7 +38,12 @@ fn keep(tape: &mut Vec<Entry>, answer: Result<RunReport, SessionFault>)
 }
 
 // What a run writes on a tape with so much room.
-fn run_entries<O: LabelOrder, B: Bank>(session: &mut Session<O, B>, steps: u64, room: usize, heap: Global) -> Result<Vec<Entry>, AllocError>
+fn run_entries<O: LabelOrder, B: Bank>(
+    session: &mut Session<O, B>,
+    steps: u64,
+    room: usize,
+    heap: Global,
+) -> Result<Vec<Entry>, AllocError>
     ensures state { λ r. ⌜ (isOk r ≡ true → state-of cells (now (session .exit)) ≡ done meaning cells (run steps room) (now (session .entry)) .state) ⌝ }
     ensures entries { λ r. ⌜ made r (λ v. vec-items v ≡ done meaning cells (run steps room) (now (session .entry)) .tape) ⌝ }
     ensures program { λ _. ⌜ now (session .exit) .memory .program ≡ now (session .entry) .memory .program ⌝ }
@@ -44,12 +56,22 @@ fn run_entries<O: LabelOrder, B: Bank>(session: &mut Session<O, B>, steps: u64, 
 }
 
 // Performs one call: what it writes is joined to the tape.
-fn perform<O: LabelOrder, B: Bank>(session: &mut Session<O, B>, call: Call, tape: &mut Vec<Entry>, heap: Global) -> Result<(), AllocError>
+fn perform<O: LabelOrder, B: Bank>(
+    session: &mut Session<O, B>,
+    call: Call,
+    tape: &mut Vec<Entry>,
+    heap: Global,
+) -> Result<(), AllocError>
     ensures performed { λ r. ⌜ (isOk r ≡ true → Performed (meaning (order-of (now (session .entry) .memory))) (tables-of (now (session .entry) .memory)) (call-of call) (state-of cells (now (session .entry))) (state-of cells (now (session .exit))) (vec-items (now (tape .entry))) (vec-items (now (tape .exit)))) ⌝ }
     ensures program { λ _. ⌜ now (session .exit) .memory .program ≡ now (session .entry) .memory .program ⌝ }
 {
     match call {
-        Call::Enter { party, variable, index, value } => {
+        Call::Enter {
+            party,
+            variable,
+            index,
+            value,
+        } => {
             let _ = session.enter(party, variable, index, value);
         }
         Call::Start => {
@@ -59,7 +81,11 @@ fn perform<O: LabelOrder, B: Bank>(session: &mut Session<O, B>, call: Call, tape
             let entries = run_entries(session, steps, room, heap)?;
             tape.extend_from_slice(&entries)?;
         }
-        Call::Look { party, variable, index } => {
+        Call::Look {
+            party,
+            variable,
+            index,
+        } => {
             let _ = session.look(party, variable, index);
         }
     }
@@ -67,7 +93,11 @@ fn perform<O: LabelOrder, B: Bank>(session: &mut Session<O, B>, call: Call, tape
 }
 
 // Performs calls, one after the other, and answers all that their runs wrote, joined.
-pub(crate) fn perform_all<O: LabelOrder, B: Bank>(session: &mut Session<O, B>, calls: &[Call], heap: Global) -> Result<Vec<Entry>, AllocError>
+pub(crate) fn perform_all<O: LabelOrder, B: Bank>(
+    session: &mut Session<O, B>,
+    calls: &[Call],
+    heap: Global,
+) -> Result<Vec<Entry>, AllocError>
     ensures { λ r. ⌜ made r (λ v. vec-items v ≡ after (meaning (order-of (now (session .entry) .memory))) (tables-of (now (session .entry) .memory)) (calls-of (now (calls .entry))) (state-of cells (now (session .entry))) .tape) ⌝ }
 {
     let mut tape = Vec::new(heap);

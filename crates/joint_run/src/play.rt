@@ -1,6 +1,6 @@
 // Playing the task from start to finish, and what there is to tell of it.
-use crate::task::DRIVES;
 use crate::task::DRIVE_COUNT;
+use crate::task::DRIVES;
 use crate::task::FRAME_COUNT;
 use crate::task::MARGINS;
 use crate::task::SLACKS;
@@ -28,18 +28,29 @@ use tape::Entry;
 use tape::pick;
 
 pub const MAKER: u8 = 0;
+
 pub const PLANT: u8 = 1;
 
 // The words of a bank for the 14 cells of the arrays: two a cell in a share bank, one in a flat one.
 const SHARES: usize = 28;
+
 const CELLS: usize = 14;
 
 // The tape that a run is given, and the steps that it may take.
 const TAPE: usize = 24;
+
 const STEPS: u64 = 9;
+
 const PIECES: usize = 100;
 
-const BLANK: Entry = Entry { kind: 0, label: 0, record: 0, variable: 0, index: 0, value: 0 };
+const BLANK: Entry = Entry {
+    kind: 0,
+    label: 0,
+    record: 0,
+    variable: 0,
+    index: 0,
+    value: 0,
+};
 
 // How much each drive stands.
 const MARGIN_TABLE: [u32; DRIVE_COUNT] = [30, 45, 60, 25];
@@ -51,9 +62,20 @@ pub struct Recording {
     slacks: [u32; FRAME_COUNT],
 }
 
-pub const FIRST: Recording = Recording { drives: [1, 3, 0], slacks: [40, 20, 35] };
-pub const OTHER: Recording = Recording { drives: [1, 3, 0], slacks: [50, 20, 35] };
-pub const THIRD: Recording = Recording { drives: [2, 0, 1], slacks: [59, 30, 10] };
+pub const FIRST: Recording = Recording {
+    drives: [1, 3, 0],
+    slacks: [40, 20, 35],
+};
+
+pub const OTHER: Recording = Recording {
+    drives: [1, 3, 0],
+    slacks: [50, 20, 35],
+};
+
+pub const THIRD: Recording = Recording {
+    drives: [2, 0, 1],
+    slacks: [59, 30, 10],
+};
 
 #[derive(Drop)]
 pub struct Told {
@@ -68,7 +90,10 @@ pub struct Told {
 }
 
 // Enters both sides' data.
-fn enter_all(session: &mut Session<TwoParty, ShareBank>, recording: Recording) -> Result<(), AnyError> {
+fn enter_all(
+    session: &mut Session<TwoParty, ShareBank>,
+    recording: Recording,
+) -> Result<(), AnyError> {
     for (i, margin) in MARGIN_TABLE.iter().enumerate() {
         if session.enter(MAKER, MARGINS, i as u32, *margin).is_err() {
             return Err("a margin was refused".into());
@@ -85,7 +110,10 @@ fn enter_all(session: &mut Session<TwoParty, ShareBank>, recording: Recording) -
 }
 
 // One run over a small tape; what it wrote goes to the joined tape.
-fn run_piece(session: &mut Session<TwoParty, ShareBank>, joined: &mut Vec<Entry>) -> Result<RunReport, AnyError> {
+fn run_piece(
+    session: &mut Session<TwoParty, ShareBank>,
+    joined: &mut Vec<Entry>,
+) -> Result<RunReport, AnyError> {
     let mut tape = [BLANK; TAPE];
     let Ok(report) = session.run(STEPS, &mut tape) else {
         return Err("a run was refused".into());
@@ -104,7 +132,11 @@ fn ended(report: RunReport) -> bool {
 }
 
 // Runs piece by piece until the program has ended.
-fn run_all(heap: Global, session: &mut Session<TwoParty, ShareBank>, joined: &mut Vec<Entry>) -> Result<Vec<RunReport>, AnyError> {
+fn run_all(
+    heap: Global,
+    session: &mut Session<TwoParty, ShareBank>,
+    joined: &mut Vec<Entry>,
+) -> Result<Vec<RunReport>, AnyError> {
     let mut pieces = Vec::new(heap);
     for _ in 0..PIECES {
         let report = run_piece(session, joined)?;
@@ -130,14 +162,32 @@ fn log_of(heap: Global, party: u8, joined: &[Entry]) -> Result<Vec<Entry>, AnyEr
 fn calls(heap: Global, recording: Recording) -> Result<Vec<Call>, AnyError> {
     let mut calls = Vec::new(heap);
     for (i, margin) in MARGIN_TABLE.iter().enumerate() {
-        calls.push(Call::Enter { party: MAKER, variable: MARGINS, index: i as u32, value: *margin })?;
+        calls.push(Call::Enter {
+            party: MAKER,
+            variable: MARGINS,
+            index: i as u32,
+            value: *margin,
+        })?;
     }
     for i in 0..FRAME_COUNT {
-        calls.push(Call::Enter { party: PLANT, variable: DRIVES, index: i as u32, value: recording.drives[i] })?;
-        calls.push(Call::Enter { party: PLANT, variable: SLACKS, index: i as u32, value: recording.slacks[i] })?;
+        calls.push(Call::Enter {
+            party: PLANT,
+            variable: DRIVES,
+            index: i as u32,
+            value: recording.drives[i],
+        })?;
+        calls.push(Call::Enter {
+            party: PLANT,
+            variable: SLACKS,
+            index: i as u32,
+            value: recording.slacks[i],
+        })?;
     }
     calls.push(Call::Start)?;
-    calls.push(Call::Run { steps: 1000, room: 1000 })?;
+    calls.push(Call::Run {
+        steps: 1000,
+        room: 1000,
+    })?;
     Ok(calls)
 }
 
@@ -175,7 +225,16 @@ fn play_sheet(heap: Global, bytes: &[u8]) -> Result<Told, AnyError> {
     let plant = log_of(heap, PLANT, &joined)?;
     let other = compare_with(heap, &sheet, OTHER)?;
     let third = compare_with(heap, &sheet, THIRD)?;
-    let told = Told { bytes: bytes.len(), variables: sheet.variables(), records: sheet.records(), pieces, maker, plant, other, third };
+    let told = Told {
+        bytes: bytes.len(),
+        variables: sheet.variables(),
+        records: sheet.records(),
+        pieces,
+        maker,
+        plant,
+        other,
+        third,
+    };
     Ok(told)
 }
 

@@ -74,14 +74,29 @@ fn first_difference(first: &[Entry], second: &[Entry]) -> Option<usize> {
 }
 
 // Where two logs of the maker part, if they do.
-fn print_comparison(rt: &impl Print, what: &str, first: &[Entry], second: &[Entry]) -> Result<(), AnyError> {
+fn print_comparison(
+    rt: &impl Print,
+    what: &str,
+    first: &[Entry],
+    second: &[Entry],
+) -> Result<(), AnyError> {
     let Some(i) = first_difference(first, second) else {
         let (a, b) = (first.len(), second.len());
-        println!(rt, "With {what} the logs of the maker, {a} and {b} entries, do not differ.")?;
+        println!(
+            rt,
+            "With {what} the logs of the maker, {a} and {b} entries, do not differ."
+        )?;
         return Ok(());
     };
-    println!(rt, "With {what} the logs of the maker first differ at entry {i}:")?;
-    for entry in first.iter().skip(i).take(1).chain(second.iter().skip(i).take(1)) {
+    println!(
+        rt,
+        "With {what} the logs of the maker first differ at entry {i}:"
+    )?;
+    for entry in first
+        .iter()
+        .skip(i)
+        .take(1)
+        .chain(second.iter().skip(i).take(1)) {
         let line = Line(*entry);
         println!(rt, "  {line}")?;
     }
@@ -93,7 +108,10 @@ impl Told {
         let bytes = self.bytes;
         let variables = self.variables;
         let records = self.records;
-        println!(rt, "A sheet of {bytes} bytes: accepted {variables} {records}")?;
+        println!(
+            rt,
+            "A sheet of {bytes} bytes: accepted {variables} {records}"
+        )?;
         let mut steps = 0u64;
         for piece in &self.pieces {
             let (taken, entries, stop) = (piece.steps, piece.entries, stop_name(piece.stop));
@@ -103,7 +121,17 @@ impl Told {
         println!(rt, "{steps} steps in all, over a share bank")?;
         print_log(rt, "maker", &self.maker)?;
         print_log(rt, "plant", &self.plant)?;
-        print_comparison(rt, "another recording", &self.other.first, &self.other.second)?;
-        print_comparison(rt, "a third recording", &self.third.first, &self.third.second)
+        print_comparison(
+            rt,
+            "another recording",
+            &self.other.first,
+            &self.other.second,
+        )?;
+        print_comparison(
+            rt,
+            "a third recording",
+            &self.third.first,
+            &self.third.second,
+        )
     }
 }

@@ -18,9 +18,10 @@ loop-call-again g c =
     let after = state-of (g .B·Bank .cells) (c .perform .last .session) in
     let call = getD (c .args .calls .now) (c .loop-call .call-index) (Enter 0 0 0 0) in
     let now = subst (λ q. Performed (g .O·LabelOrder .meaning (contents q .order)) (contents q .tables) (call-of call) before after (vec-items (c .loop-call .tape)) (vec-items (c .perform .last .tape))) (inv .0)
-        (c .in-Continue-perform .ensures tt .performed refl) in
-    (c .perform .ensures .program ∙ inv .0,
-      all-more (g .O·LabelOrder .meaning (order-of (me .memory))) (tables-of (me .memory)) (c .args .calls .now) (c .loop-call .call-index) (Enter 0 0 0 0) before after _ _ _ (c .loop-call-test .taken) now (inv .1))
+    (c .in-Continue-perform .ensures tt .performed refl) in (
+      c .perform .ensures .program ∙ inv .0,
+      all-more (g .O·LabelOrder .meaning (order-of (me .memory))) (tables-of (me .memory)) (c .args .calls .now) (c .loop-call .call-index) (Enter 0 0 0 0) before after _ _ _ (c .loop-call-test .taken) now (inv .1),
+    )
 
 pub returns : need.returns
 returns g c =
