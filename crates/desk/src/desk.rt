@@ -33,7 +33,14 @@ use tape::Kind;
 use tape::LogRefusal;
 use tape::pick;
 
-const BLANK: Entry = Entry { kind: 0, label: 0, record: 0, variable: 0, index: 0, value: 0 };
+const BLANK: Entry = Entry {
+    kind: 0,
+    label: 0,
+    record: 0,
+    variable: 0,
+    index: 0,
+    value: 0,
+};
 
 // A pick that waits for its entries.
 #[derive(Clone, Copy)]
@@ -60,7 +67,11 @@ pub struct Desk {
 }
 
 // Reads and accepts a sheet.
-fn accept_bytes(bytes: &[u8], order: AnyOrder, program: &mut Program<AnyOrder>) -> Result<(usize, usize), Refusal> {
+fn accept_bytes(
+    bytes: &[u8],
+    order: AnyOrder,
+    program: &mut Program<AnyOrder>,
+) -> Result<(usize, usize), Refusal> {
     let mut sheet = ReadSheet::smallest();
     sheet.read(bytes)?;
     accept(&sheet, &order, program)?;
@@ -85,7 +96,10 @@ fn widen(room: &mut Vec<Entry>, length: usize) -> io::Result<()> {
 }
 
 // A session, where there are a program and a bank.
-fn opened(program: Option<Program<AnyOrder>>, bank: Option<AnyBank>) -> Option<Session<AnyOrder, AnyBank>> {
+fn opened(
+    program: Option<Program<AnyOrder>>,
+    bank: Option<AnyBank>,
+) -> Option<Session<AnyOrder, AnyBank>> {
     let program = program?;
     let bank = bank?;
     Some(Session::open(program, bank))
@@ -131,12 +145,32 @@ impl Desk {
             Command::Flat(text) => self.set_bank(number, None, text, out),
             Command::Share(pad, text) => self.set_bank(number, Some(pad), text, out),
             Command::Open => self.open(out),
-            Command::Enter { party, variable, index, value } => self.enter(party, variable, index, value, out),
+            Command::Enter {
+                party,
+                variable,
+                index,
+                value,
+            } => self.enter(party, variable, index, value, out),
             Command::Start => self.start(out),
             Command::Run { steps, tape } => self.run(steps, tape, out),
-            Command::Look { party, variable, index } => self.look(party, variable, index, out),
+            Command::Look {
+                party,
+                variable,
+                index,
+            } => self.look(party, variable, index, out),
             Command::Log(party) => self.log(party, out),
-            Command::Pick { party, buffer, count } => self.wait(Waiting { party, buffer, count }, out),
+            Command::Pick {
+                party,
+                buffer,
+                count,
+            } => self.wait(
+                Waiting {
+                    party,
+                    buffer,
+                    count,
+                },
+                out,
+            ),
         }
     }
 
@@ -177,7 +211,13 @@ impl Desk {
         }
     }
 
-    fn set_bank<W: Write>(&mut self, number: u64, pad: Option<u32>, text: Option<&str>, out: &mut W) -> io::Result<()> {
+    fn set_bank<W: Write>(
+        &mut self,
+        number: u64,
+        pad: Option<u32>,
+        text: Option<&str>,
+        out: &mut W,
+    ) -> io::Result<()> {
         let Some(words) = words(self.heap, text)? else {
             return writeln!(out, "unreadable {number}");
         };
@@ -201,7 +241,14 @@ impl Desk {
         writeln!(out, "opened")
     }
 
-    fn enter<W: Write>(&mut self, party: u8, variable: u8, index: u32, value: u32, out: &mut W) -> io::Result<()> {
+    fn enter<W: Write>(
+        &mut self,
+        party: u8,
+        variable: u8,
+        index: u32,
+        value: u32,
+        out: &mut W,
+    ) -> io::Result<()> {
         let Some(session) = &mut self.session else {
             return writeln!(out, "no session");
         };
@@ -243,7 +290,13 @@ impl Desk {
         }
     }
 
-    fn look<W: Write>(&mut self, party: u8, variable: u8, index: u32, out: &mut W) -> io::Result<()> {
+    fn look<W: Write>(
+        &mut self,
+        party: u8,
+        variable: u8,
+        index: u32,
+        out: &mut W,
+    ) -> io::Result<()> {
         let Some(session) = &mut self.session else {
             return writeln!(out, "no session");
         };
@@ -289,7 +342,13 @@ impl Desk {
     }
 
     // One entry of a pick.
-    fn give<W: Write>(&mut self, number: u64, text: &str, waiting: Waiting, out: &mut W) -> io::Result<()> {
+    fn give<W: Write>(
+        &mut self,
+        number: u64,
+        text: &str,
+        waiting: Waiting,
+        out: &mut W,
+    ) -> io::Result<()> {
         let Some(entry) = parse_entry(text) else {
             return writeln!(out, "unreadable {number}");
         };
@@ -310,7 +369,12 @@ impl Desk {
         if self.room.len() < buffer {
             return Ok(());
         }
-        match pick(&order, waiting.party, &self.given, &mut self.room[0..buffer]) {
+        match pick(
+            &order,
+            waiting.party,
+            &self.given,
+            &mut self.room[0..buffer],
+        ) {
             Ok(count) => {
                 writeln!(out, "picked {count}")?;
                 if count > self.room.len() {

@@ -27,7 +27,10 @@ pub fn entries<W: Write>(out: &mut W, list: &[Entry]) -> io::Result<()> {
     for entry in list {
         let (kind, label, record) = (entry.kind, entry.label, entry.record);
         let (variable, index, value) = (entry.variable, entry.index, entry.value);
-        writeln!(out, "entry {kind} {label} {record} {variable} {index} {value}")?;
+        writeln!(
+            out,
+            "entry {kind} {label} {record} {variable} {index} {value}"
+        )?;
     }
     Ok(())
 }

@@ -3,9 +3,9 @@ use crate::task::DRIVE_COUNT;
 use crate::task::DRIVES;
 use crate::task::FRAME_COUNT;
 use crate::task::MARGINS;
+use crate::task::RECORDS;
 use crate::task::SLACKS;
-use crate::task::records;
-use crate::task::variables;
+use crate::task::VARIABLES;
 use banks::FlatBank;
 use banks::FlatBankBank;
 use banks::ShareBank;
@@ -240,7 +240,7 @@ fn play_sheet(heap: Global, bytes: &[u8]) -> Result<Told, AnyError> {
 
 pub fn play(heap: Global) -> Result<Told, AnyError> {
     let mut buffer = [0; 512];
-    let Ok(length) = lay_out(&variables(), &records(), &mut buffer) else {
+    let Ok(length) = lay_out(&VARIABLES, &RECORDS, &mut buffer) else {
         return Err("the tables have no sheet".into());
     };
     if length > 512 {

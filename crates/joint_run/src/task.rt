@@ -60,210 +60,260 @@ pub const DRIVE_COUNT: usize = 4;
 
 pub const FRAME_COUNT: usize = 3;
 
-const fn number(label: u8) -> Variable {
+pub const VARIABLES: [Variable; 20] = [
     Variable {
-        label,
+        label: MAKER,
+        kind: Kind::Array(4),
+    },
+    Variable {
+        label: PLANT,
+        kind: Kind::Array(3),
+    },
+    Variable {
+        label: PLANT,
+        kind: Kind::Array(3),
+    },
+    Variable {
+        label: SECRET,
+        kind: Kind::Array(4),
+    },
+    Variable {
+        label: PUBLIC,
         kind: Kind::Number,
-    }
-}
-
-const fn array(label: u8, cells: u16) -> Variable {
+    },
     Variable {
-        label,
-        kind: Kind::Array(cells),
-    }
-}
-
-const fn record(label: u8, next: u16, form: Form) -> Record {
-    Record { label, next, form }
-}
-
-pub fn variables() -> [Variable; 20] {
-    [
-        array(MAKER, 4),
-        array(PLANT, 3),
-        array(PLANT, 3),
-        array(SECRET, 4),
-        number(PUBLIC),
-        number(PUBLIC),
-        number(PUBLIC),
-        number(PUBLIC),
-        number(PUBLIC),
-        number(PLANT),
-        number(PLANT),
-        number(SECRET),
-        number(SECRET),
-        number(SECRET),
-        number(SECRET),
-        number(SECRET),
-        number(SECRET),
-        number(SECRET),
-        number(PUBLIC),
-        number(PLANT),
-    ]
-}
+        label: PUBLIC,
+        kind: Kind::Number,
+    },
+    Variable {
+        label: PUBLIC,
+        kind: Kind::Number,
+    },
+    Variable {
+        label: PUBLIC,
+        kind: Kind::Number,
+    },
+    Variable {
+        label: PUBLIC,
+        kind: Kind::Number,
+    },
+    Variable {
+        label: PLANT,
+        kind: Kind::Number,
+    },
+    Variable {
+        label: PLANT,
+        kind: Kind::Number,
+    },
+    Variable {
+        label: SECRET,
+        kind: Kind::Number,
+    },
+    Variable {
+        label: SECRET,
+        kind: Kind::Number,
+    },
+    Variable {
+        label: SECRET,
+        kind: Kind::Number,
+    },
+    Variable {
+        label: SECRET,
+        kind: Kind::Number,
+    },
+    Variable {
+        label: SECRET,
+        kind: Kind::Number,
+    },
+    Variable {
+        label: SECRET,
+        kind: Kind::Number,
+    },
+    Variable {
+        label: SECRET,
+        kind: Kind::Number,
+    },
+    Variable {
+        label: PUBLIC,
+        kind: Kind::Number,
+    },
+    Variable {
+        label: PLANT,
+        kind: Kind::Number,
+    },
+];
 
 // The margins go through oram into a secret table. A public loop scans the frames; the margin of each is looked up by a
 // secret index, frames below their margin are counted, and the frame that is furthest below is kept. At the end the
 // count is released to both, and the worst frame to the plant alone.
-pub fn records() -> [Record; 19] {
-    [
-        record(PUBLIC, 2, Form::Constant { x: ONE, value: 1 }),
-        record(
-            PUBLIC,
-            3,
-            Form::Constant {
-                x: FRAMES,
-                value: 3,
-            },
-        ),
-        record(
-            SECRET,
-            4,
-            Form::Oram {
-                x: TABLE,
-                a: MARGINS,
-            },
-        ),
-        record(
-            PUBLIC,
-            5,
-            Form::Binary {
-                x: MORE,
-                a: I,
-                b: FRAMES,
-                op: Op::Less,
-            },
-        ),
-        record(PUBLIC, 18, Form::While { a: MORE, body: 6 }),
-        record(
-            PLANT,
-            7,
-            Form::Fetch {
-                x: DRIVE,
-                a: DRIVES,
-                b: I,
-            },
-        ),
-        record(
-            PLANT,
-            8,
-            Form::Fetch {
-                x: SLACK,
-                a: SLACKS,
-                b: I,
-            },
-        ),
-        record(
-            SECRET,
-            9,
-            Form::Fetch {
-                x: MARGIN,
-                a: TABLE,
-                b: DRIVE,
-            },
-        ),
-        record(
-            SECRET,
-            10,
-            Form::Binary {
-                x: BELOW,
-                a: SLACK,
-                b: MARGIN,
-                op: Op::Less,
-            },
-        ),
-        record(
-            SECRET,
-            11,
-            Form::Binary {
-                x: COUNT,
-                a: COUNT,
-                b: BELOW,
-                op: Op::Sum,
-            },
-        ),
-        record(
-            SECRET,
-            12,
-            Form::Binary {
-                x: DEFICIT,
-                a: MARGIN,
-                b: SLACK,
-                op: Op::Difference,
-            },
-        ),
-        record(
-            SECRET,
-            13,
-            Form::Mux {
-                x: DEFICIT,
-                a: BELOW,
-                b: ZERO,
-                c: DEFICIT,
-            },
-        ),
-        record(
-            SECRET,
-            14,
-            Form::Binary {
-                x: WORSE,
-                a: WORST_DEFICIT,
-                b: DEFICIT,
-                op: Op::Less,
-            },
-        ),
-        record(
-            SECRET,
-            15,
-            Form::Mux {
-                x: WORST_DEFICIT,
-                a: WORSE,
-                b: WORST_DEFICIT,
-                c: DEFICIT,
-            },
-        ),
-        record(
-            SECRET,
-            16,
-            Form::Mux {
-                x: WORST,
-                a: WORSE,
-                b: WORST,
-                c: I,
-            },
-        ),
-        record(
-            PUBLIC,
-            17,
-            Form::Binary {
-                x: I,
-                a: I,
-                b: ONE,
-                op: Op::Sum,
-            },
-        ),
-        record(
-            PUBLIC,
-            0,
-            Form::Binary {
-                x: MORE,
-                a: I,
-                b: FRAMES,
-                op: Op::Less,
-            },
-        ),
-        record(SECRET, 19, Form::Declass { x: TOTAL, a: COUNT }),
-        record(
-            SECRET,
-            0,
-            Form::Declass {
-                x: WORST_FRAME,
-                a: WORST,
-            },
-        ),
-    ]
-}
+pub const RECORDS: [Record; 19] = [
+    Record {
+        label: PUBLIC,
+        next: 2,
+        form: Form::Constant { x: ONE, value: 1 },
+    },
+    Record {
+        label: PUBLIC,
+        next: 3,
+        form: Form::Constant {
+            x: FRAMES,
+            value: 3,
+        },
+    },
+    Record {
+        label: SECRET,
+        next: 4,
+        form: Form::Oram {
+            x: TABLE,
+            a: MARGINS,
+        },
+    },
+    Record {
+        label: PUBLIC,
+        next: 5,
+        form: Form::Binary {
+            x: MORE,
+            a: I,
+            b: FRAMES,
+            op: Op::Less,
+        },
+    },
+    Record {
+        label: PUBLIC,
+        next: 18,
+        form: Form::While { a: MORE, body: 6 },
+    },
+    Record {
+        label: PLANT,
+        next: 7,
+        form: Form::Fetch {
+            x: DRIVE,
+            a: DRIVES,
+            b: I,
+        },
+    },
+    Record {
+        label: PLANT,
+        next: 8,
+        form: Form::Fetch {
+            x: SLACK,
+            a: SLACKS,
+            b: I,
+        },
+    },
+    Record {
+        label: SECRET,
+        next: 9,
+        form: Form::Fetch {
+            x: MARGIN,
+            a: TABLE,
+            b: DRIVE,
+        },
+    },
+    Record {
+        label: SECRET,
+        next: 10,
+        form: Form::Binary {
+            x: BELOW,
+            a: SLACK,
+            b: MARGIN,
+            op: Op::Less,
+        },
+    },
+    Record {
+        label: SECRET,
+        next: 11,
+        form: Form::Binary {
+            x: COUNT,
+            a: COUNT,
+            b: BELOW,
+            op: Op::Sum,
+        },
+    },
+    Record {
+        label: SECRET,
+        next: 12,
+        form: Form::Binary {
+            x: DEFICIT,
+            a: MARGIN,
+            b: SLACK,
+            op: Op::Difference,
+        },
+    },
+    Record {
+        label: SECRET,
+        next: 13,
+        form: Form::Mux {
+            x: DEFICIT,
+            a: BELOW,
+            b: ZERO,
+            c: DEFICIT,
+        },
+    },
+    Record {
+        label: SECRET,
+        next: 14,
+        form: Form::Binary {
+            x: WORSE,
+            a: WORST_DEFICIT,
+            b: DEFICIT,
+            op: Op::Less,
+        },
+    },
+    Record {
+        label: SECRET,
+        next: 15,
+        form: Form::Mux {
+            x: WORST_DEFICIT,
+            a: WORSE,
+            b: WORST_DEFICIT,
+            c: DEFICIT,
+        },
+    },
+    Record {
+        label: SECRET,
+        next: 16,
+        form: Form::Mux {
+            x: WORST,
+            a: WORSE,
+            b: WORST,
+            c: I,
+        },
+    },
+    Record {
+        label: PUBLIC,
+        next: 17,
+        form: Form::Binary {
+            x: I,
+            a: I,
+            b: ONE,
+            op: Op::Sum,
+        },
+    },
+    Record {
+        label: PUBLIC,
+        next: 0,
+        form: Form::Binary {
+            x: MORE,
+            a: I,
+            b: FRAMES,
+            op: Op::Less,
+        },
+    },
+    Record {
+        label: SECRET,
+        next: 19,
+        form: Form::Declass { x: TOTAL, a: COUNT },
+    },
+    Record {
+        label: SECRET,
+        next: 0,
+        form: Form::Declass {
+            x: WORST_FRAME,
+            a: WORST,
+        },
+    },
+];
 
 // The name of a variable.
 pub fn name(variable: u8) -> &'static str {

@@ -8,10 +8,15 @@ use tape::Entry;
 
 // The largest fields.
 const BYTE: u64 = 255;
+
 const SHORT: u64 = 65_535;
+
 const WORD: u64 = 4_294_967_295;
+
 const LONG: u64 = 18_446_744_073_709_551_615;
+
 const MOST_ENTRIES: u64 = 100_000;
+
 const MOST_PICKED: u64 = 10_000;
 
 pub enum Command<'a> {
@@ -26,13 +31,29 @@ pub enum Command<'a> {
     // The pad and the words of a share bank.
     Share(u32, Option<&'a str>),
     Open,
-    Enter { party: u8, variable: u8, index: u32, value: u32 },
+    Enter {
+        party: u8,
+        variable: u8,
+        index: u32,
+        value: u32,
+    },
     Start,
-    Run { steps: u64, tape: usize },
-    Look { party: u8, variable: u8, index: u32 },
+    Run {
+        steps: u64,
+        tape: usize,
+    },
+    Look {
+        party: u8,
+        variable: u8,
+        index: u32,
+    },
     Log(u8),
     // Entries follow, so many of them.
-    Pick { party: u8, buffer: usize, count: usize },
+    Pick {
+        party: u8,
+        buffer: usize,
+        count: usize,
+    },
 }
 
 fn order(rest: Option<&str>) -> Option<Command<'_>> {
@@ -64,27 +85,43 @@ fn enter(rest: Option<&str>) -> Option<Command<'_>> {
     let (variable, rest) = next(rest, BYTE)?;
     let (index, rest) = next(rest, WORD)?;
     let entered = last(rest, WORD)?;
-    Some(Command::Enter { party: byte(party)?, variable: byte(variable)?, index: value(index)?, value: value(entered)? })
+    Some(Command::Enter {
+        party: byte(party)?,
+        variable: byte(variable)?,
+        index: value(index)?,
+        value: value(entered)?,
+    })
 }
 
 fn look(rest: Option<&str>) -> Option<Command<'_>> {
     let (party, rest) = next(rest, BYTE)?;
     let (variable, rest) = next(rest, BYTE)?;
     let index = last(rest, WORD)?;
-    Some(Command::Look { party: byte(party)?, variable: byte(variable)?, index: value(index)? })
+    Some(Command::Look {
+        party: byte(party)?,
+        variable: byte(variable)?,
+        index: value(index)?,
+    })
 }
 
 fn run(rest: Option<&str>) -> Option<Command<'_>> {
     let (steps, rest) = next(rest, LONG)?;
     let tape = last(rest, MOST_ENTRIES)?;
-    Some(Command::Run { steps, tape: tape as usize })
+    Some(Command::Run {
+        steps,
+        tape: tape as usize,
+    })
 }
 
 fn pick(rest: Option<&str>) -> Option<Command<'_>> {
     let (party, rest) = next(rest, BYTE)?;
     let (buffer, rest) = next(rest, MOST_ENTRIES)?;
     let count = last(rest, MOST_PICKED)?;
-    Some(Command::Pick { party: byte(party)?, buffer: buffer as usize, count: count as usize })
+    Some(Command::Pick {
+        party: byte(party)?,
+        buffer: buffer as usize,
+        count: count as usize,
+    })
 }
 
 // The command of a line; none where it cannot be read.
@@ -125,5 +162,12 @@ pub fn parse_entry(line: &str) -> Option<Entry> {
     let (index, rest) = next(rest, WORD)?;
     let held = last(rest, WORD)?;
     let record = u16::try_from(record).ok()?;
-    Some(Entry { kind: byte(kind)?, label: byte(label)?, record, variable: byte(variable)?, index: value(index)?, value: value(held)? })
+    Some(Entry {
+        kind: byte(kind)?,
+        label: byte(label)?,
+        record,
+        variable: byte(variable)?,
+        index: value(index)?,
+        value: value(held)?,
+    })
 }
