@@ -5,7 +5,7 @@ use refusal::Layer;
 use refusal::Refusal;
 
 // A fault with its place: the first byte of the field at fault, or the length that is said.
-#[derive(Clone, Copy, PartialEq, Eq)]
+#[derive(Clone, Copy)]
 pub enum SheetFault {
     // 1: under 4 bytes; the input length.
     Truncated(usize),

@@ -10,17 +10,11 @@ mod tables;
 mod writing;
 
 pub use faults::SheetFault;
-pub use faults::SheetFaultPartialEq;
 pub use faults::SheetRefusal;
 pub use laying::lay_out;
 pub use sheet::ReadSheet;
 pub use tables::Form;
-pub use tables::FormPartialEq;
 pub use tables::Kind;
-pub use tables::KindPartialEq;
 pub use tables::Op;
-pub use tables::OpPartialEq;
 pub use tables::Record;
-pub use tables::RecordPartialEq;
 pub use tables::Variable;
-pub use tables::VariablePartialEq;

@@ -5,20 +5,20 @@ ghost use Rattle.sheet.specs.Tables.{cells, form-code, operator-code, operator
 ghost use Rattle.std.specs.declared.option.Option.the-variants.{Some, None};
 
 // A number, or an array of so many cells of the bank.
-#[derive(Clone, Copy, PartialEq)]
+#[derive(Clone, Copy)]
 pub enum Kind {
     Number,
     Array(u16),
 }
 
-#[derive(Clone, Copy, PartialEq)]
+#[derive(Clone, Copy)]
 pub struct Variable {
     pub label: u8,
     pub kind: Kind,
 }
 
 // The operators of `x := a op b`, on 32 bits: sum, difference and product wrap, equal and less give 1 or 0.
-#[derive(Clone, Copy, PartialEq)]
+#[derive(Clone, Copy)]
 pub enum Op {
     Sum,
     Difference,
@@ -31,7 +31,7 @@ pub enum Op {
 }
 
 // What a record does. Operands are numbers of variables, links numbers of records; link 0 ends a chain.
-#[derive(Clone, Copy, PartialEq)]
+#[derive(Clone, Copy)]
 pub enum Form {
     // Nothing.
     Skip,
@@ -58,7 +58,7 @@ pub enum Form {
 }
 
 // Records count from 1 and are chained by `next`.
-#[derive(Clone, Copy, PartialEq)]
+#[derive(Clone, Copy)]
 pub struct Record {
     pub label: u8,
     pub next: u16,
