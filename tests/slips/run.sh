@@ -1,36 +1,41 @@
 #!/usr/bin/env bash
 # Two slips of a host are found when its code is checked: opening a session with a sheet that was only read, and
 # opening two with one accepted program. Each text here is a host; a line `//slip CODE` stands for a slip in the place
-# of the line above it. The host without the slip must pass the check, and with it be refused by the expected error.
+# of the line above it. The host without the slip must be taken, and with it be refused by the expected error.
+# Such errors come from the compiler's front end, before the prover, so nothing need be proved for them.
 set -eu
 root=$(cd "$(dirname "$0")/../.." && pwd)
+kit=$(dirname "$(dirname "$(rt doc)")")
 work=$(mktemp -d)
 trap 'rm -rf "$work"' EXIT
-libraries="refusal labels sheet tape model rules checker banks session"
-mkdir -p "$work/crates/host/src" "$work/crates/host/specs" "$work/crates/host/proofs"
-touch "$work/crates/host/specs/Lib.antt" "$work/crates/host/proofs/Lib.antt"
-for name in $libraries; do
-    cp -R "$root/crates/$name" "$work/crates/$name"
-    grep "^$name:" "$root/crates.txt" >>"$work/crates.txt"
+
+libraries=()
+while IFS=: read -r name used; do
+    libraries+=(--lib "$name:$(echo $used | tr ' ' ,)=$kit/$name/src/lib.rt")
+done <"$kit/libs.txt"
+for name in refusal labels sheet tape model rules checker banks session; do
+    libraries+=(--lib "$name=$root/crates/$name/src/lib.rt")
 done
-echo "host: labels sheet checker banks session" >>"$work/crates.txt"
-cd "$work"
+
+compile() { # TEXT: runs the front end on the host as a program
+    { cat "$1"; printf '\nfn main() {}\n'; } >"$work/main.rt"
+    "$kit/bin/rattle-print-mir" "$work/main.rt" --crate-name host "${libraries[@]}" >/dev/null 2>"$work/errors"
+}
 
 try() { # TEXT ERROR
-    cp "$root/tests/slips/$1.txt" crates/host/src/lib.rt
-    if ! rt check host >"$work/right.log" 2>&1; then
-        tail -n 20 "$work/right.log"
-        echo "slips: $1: the host without the slip does not pass"
+    if ! compile "$root/tests/slips/$1.txt"; then
+        tail -n 20 "$work/errors"
+        echo "slips: $1: the host without the slip is refused"
         exit 1
     fi
     awk '/^ *\/\/slip /{ sub(/\/\/slip /, ""); held = $0; next } { if (NR > 1) print held; held = $0 } END { print held }' \
-        "$root/tests/slips/$1.txt" >crates/host/src/lib.rt
-    if rt check host >"$work/wrong.log" 2>&1; then
+        "$root/tests/slips/$1.txt" >"$work/slip.txt"
+    if compile "$work/slip.txt"; then
         echo "slips: $1: the slip passes"
         exit 1
     fi
-    if ! grep -qF "$2" "$work/wrong.log"; then
-        tail -n 20 "$work/wrong.log"
+    if ! grep -qF "$2" "$work/errors"; then
+        tail -n 20 "$work/errors"
         echo "slips: $1: refused, but not by $2"
         exit 1
     fi
