@@ -93,13 +93,16 @@ pub(crate) fn check_linked_once(records: &[Record]) -> Result<(), ShapeFault>
     Ok(())
 }
 
-// 26: no record is nested deeper than 16.
+// How deep a record may be nested, the main chain being 1.
+const DEEPEST: u16 = 16;
+
+// 26: no record is nested deeper than that.
 pub(crate) fn check_depth(records: &[Record], places: &[Place]) -> Result<(), ShapeFault>
     requires { ⌜ length (now records) ≤ 512 ⌝ ∗ ⌜ ((j : ℕ) → j < length (now records) → nth (now places) j ≡ Some (place (now records) (j + 1))) ⌝ ∗ ⌜ length (now records) ≤ length (now places) ⌝ }
     ensures { λ r. ⌜ r ≡ answer (depth-refusal (now (records .entry)) (length (now (records .entry)))) tt ⌝ }
 {
     for j in 0..records.len() {
-        if places[j].depth > 16 {
+        if places[j].depth > DEEPEST {
             return Err(ShapeFault::Depth(j + 1));
         }
     }

@@ -17,9 +17,9 @@ pub loop-j-holds : need.loop-j-holds
 unfolding depth-refusal
 loop-j-holds c = refl
 
-pub returns-then-places-j-gt16 : need.returns-then-places-j-gt16
+pub returns-then-places-j-gt-DEEPEST : need.returns-then-places-j-gt-DEEPEST
 unfolding depth-refusal
-returns-then-places-j-gt16 c =
+returns-then-places-j-gt-DEEPEST c =
     let rs = c .args .records .now in
     let j = c .loop-j .j in
     let at = ap (λ (p : Place). p .depth) (place-read rs (c .args .places .now) j (record { enclosing = 0; depth = 0 }) (omega arith) (c .pre .1 .0 j (omega arith))) in
