@@ -1,4 +1,6 @@
 // Banks: rows of 32-bit cells behind one interface.
+#![tactic(auto)]
+
 mod flat;
 mod share;
 

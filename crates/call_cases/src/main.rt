@@ -1,4 +1,6 @@
 // Makes recorded calls of the libraries: one call a line in, its answer a line out (docs/CASES.md).
+#![tactic(auto)]
+
 mod answer;
 mod cells;
 mod fault;

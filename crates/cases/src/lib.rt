@@ -1,4 +1,6 @@
 // Examples of the libraries, as tests. Many sheets with their verdicts stand in crates/sheet_cases.
+#![tactic(auto)]
+
 #[cfg(test)]
 mod layouts;
 #[cfg(test)]

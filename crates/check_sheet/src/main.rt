@@ -1,4 +1,6 @@
 // Reads a sheet from standard input and says whether it is accepted under the two-party order.
+#![tactic(auto)]
+
 use std::io;
 use std::io::Read;
 use verdict::verdict_line;

@@ -1,4 +1,6 @@
 // Accepting a program: its shape and its type rules.
+#![tactic(auto)]
+
 mod accepting;
 mod access;
 mod program;

@@ -1,4 +1,6 @@
 // An order and a bank that are chosen while the program runs.
+#![tactic(auto)]
+
 mod bank;
 mod order;
 

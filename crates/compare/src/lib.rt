@@ -1,4 +1,6 @@
 // Two sessions of one program, and what a party's logs of them tell.
+#![tactic(auto)]
+
 mod call;
 mod comparing;
 mod fault;

@@ -1,4 +1,6 @@
 // Plays a session script from standard input: one command a line in, its answer out.
+#![tactic(auto)]
+
 mod desk;
 mod print;
 

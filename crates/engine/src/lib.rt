@@ -1,4 +1,6 @@
 // The engine for C and Rust, under the two-party order: a handful of functions on numbers and slices.
+#![tactic(auto)]
+
 ghost use Rattle.std.specs.Prelude.{◌≡◌, length, replicate};
 ghost use Rattle.banks.specs.Shares.{joined_cells};
 ghost use Rattle.labels.specs.Orders.{two_party};

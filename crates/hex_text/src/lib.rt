@@ -1,4 +1,6 @@
 // Bytes from their hexadecimal digits.
+#![tactic(auto)]
+
 ghost use Rattle.std.specs.Prelude.{◌≡◌, ◌<◌, IfSome, IfOk, vec_items};
 ghost use Rattle.std.specs.Option.{option_map};
 ghost use Rattle.hex_text.specs.Digits.{digit, byte_of, bytes_of};

@@ -1,4 +1,6 @@
 // Label orders: who may see what, behind one interface.
+#![tactic(auto)]
+
 mod fault;
 mod order;
 mod party_set;

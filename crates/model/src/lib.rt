@@ -1,4 +1,6 @@
 // The joint-run machine: what programs mean, which are accepted, and the secrecy of two sessions.
+#![tactic(auto)]
+
 ghost use Rattle.labels.specs.Labels.{Labels, Lawful};
 ghost use Rattle.model.specs.Program.{Program};
 ghost use Rattle.model.specs.Rules.{Accepted};

@@ -1,4 +1,6 @@
 // What a call that refuses answers: the layer, the number of the reason, and the place.
+#![tactic(auto)]
+
 ghost use Rattle.std.specs.Prelude.{◌≡◌, Some};
 ghost use Rattle.refusal.specs.Refusals.{layer_name, refusal_text};
 

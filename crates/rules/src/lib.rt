@@ -1,4 +1,6 @@
 // What a single record must keep: the checks of its shape and its type rules, generic over every label order.
+#![tactic(auto)]
+
 mod faults;
 mod operands;
 mod shape;

@@ -1,4 +1,6 @@
 // The lines of a session script, read as commands.
+#![tactic(auto)]
+
 mod bank;
 mod command;
 mod fields;

@@ -1,4 +1,6 @@
 // Sessions: an accepted program that runs over a bank.
+#![tactic(auto)]
+
 mod acting;
 mod memory;
 mod noting;

@@ -1,4 +1,6 @@
 // The program sheet: its tables, its bytes, and the reading and laying out between them.
+#![tactic(auto)]
+
 mod answers;
 mod codec;
 mod encode;

@@ -1,5 +1,7 @@
 // Checks a list of sheets: each line of standard input is a name and a sheet in hexadecimal digits (`-` for no bytes),
 // and each line of the output the name and the verdict under the two-party order.
+#![tactic(auto)]
+
 use hex_text::decode;
 use std::alloc::{AllocError, Global};
 use std::io;

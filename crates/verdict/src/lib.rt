@@ -1,4 +1,6 @@
 // The verdict on the bytes of a sheet: from reading to accepting, and how it prints.
+#![tactic(auto)]
+
 ghost use Rattle.std.specs.Prelude.{◌≡◌, true, is_ok, IfOk, if◌then◌else◌, Some, string_bytes};
 ghost use Rattle.labels.specs.Orders.{two_party};
 ghost use Rattle.model.specs.Rules.{Accepted};
