@@ -22,7 +22,7 @@ loop-k-preserved c =
     c.loop-k.invariant
     ∙ ap (front bs) (step text i (omega arith) ∙ ap (λ o. before o (bytes_of (drop (i + 2) text))) (sym c.in-Some.ensures))
     ∙ front_more bs c.in-Some.byte (bytes_of (drop (i + 2) text))
-    ∙ (λ j. front (sym c.in-ok-push.ensures.items j) (bytes_of (drop (next j) text)))
+    ∙ (λ j. front (sym c.in_ok-push-in-Some.ensures.items j) (bytes_of (drop (next j) text)))
 
 pub returns : goal.returns
 returns c =

@@ -5,6 +5,6 @@ use Rattle.verdict.proofs.check.Goals as goal
 pub returns : goal.returns
 returns g c =
     record {
-      answers = c.read-and-accept.ensures.answers;
-      secret = λ e. checked_secret (g.O.LabelOrder.meaning c.args.order) (g.met.O.LabelOrder.lawful c.args.order) c.args.bytes.now (ap is_ok (sym c.read-and-accept.ensures.answers) ∙ e);
+      answers = c.read_and_accept.ensures.answers;
+      secret = λ e. checked_secret (g.O.LabelOrder.meaning c.args.order) (g.met.O.LabelOrder.lawful c.args.order) c.args.bytes.now (ap is_ok (sym c.read_and_accept.ensures.answers) ∙ e);
     }

@@ -6,40 +6,40 @@ use Rattle.checker.proofs.Joint.{by_variables, by_records, by_once, early, late,
 use Rattle.checker.proofs.Exact.{entries_linked}
 use Rattle.checker.proofs.accepting.check_shape.Goals as goal
 
-pub returns-in-err-check-variables : goal.returns-in-err-check-variables
-returns-in-err-check-variables g c =
+pub returns-in_err-check_variables : goal.returns-in_err-check_variables
+returns-in_err-check_variables g c =
     let L = g.O.LabelOrder.meaning c.args.order.now in
     let p = program c.args.variables.now c.args.records.now in
-    let h = early L p _ (by_variables L p _ (refused _ _ _ c.in-err-check-variables.ensures)) in
+    let h = early L p _ (by_variables L p _ (refused _ _ _ c.in_err-check_variables.ensures)) in
     record { answers = leaves _ _ _ tt c.from-residual.ensures.1 h; placed = λ n. absurd (some_none _ _ h n) }
 
-pub returns-in-err-check-records : goal.returns-in-err-check-records
-returns-in-err-check-records g c =
+pub returns-in_err-check_records : goal.returns-in_err-check_records
+returns-in_err-check_records g c =
     let L = g.O.LabelOrder.meaning c.args.order.now in
     let p = program c.args.variables.now c.args.records.now in
-    let h = early L p _ (by_records L p _ (accepted _ _ _ c.in-ok-check-variables.ensures).0 (refused _ _ _ c.in-err-check-records.ensures)) in
-    record { answers = leaves _ _ _ tt c.from-residual-in-err-check-records.ensures.1 h; placed = λ n. absurd (some_none _ _ h n) }
+    let h = early L p _ (by_records L p _ (accepted _ _ _ c.in_ok-check_variables.ensures).0 (refused _ _ _ c.in_err-check_records.ensures)) in
+    record { answers = leaves _ _ _ tt c.from-residual-in_err-check_records.ensures.1 h; placed = λ n. absurd (some_none _ _ h n) }
 
-pub returns-in-err-check-linked-once : goal.returns-in-err-check-linked-once
-returns-in-err-check-linked-once g c =
+pub returns-in_err-check_linked_once : goal.returns-in_err-check_linked_once
+returns-in_err-check_linked_once g c =
     let L = g.O.LabelOrder.meaning c.args.order.now in
     let p = program c.args.variables.now c.args.records.now in
-    let h = early L p _ (by_once L p _ (accepted _ _ _ c.in-ok-check-variables.ensures).0 (accepted _ _ _ c.in-ok-check-records.ensures).0 (refused _ _ _ c.in-err-check-linked-once.ensures)) in
-    record { answers = leaves _ _ _ tt c.from-residual-in-err-check-linked-once.ensures.1 h; placed = λ n. absurd (some_none _ _ h n) }
+    let h = early L p _ (by_once L p _ (accepted _ _ _ c.in_ok-check_variables.ensures).0 (accepted _ _ _ c.in_ok-check_records.ensures).0 (refused _ _ _ c.in_err-check_linked_once.ensures)) in
+    record { answers = leaves _ _ _ tt c.from-residual-in_err-check_linked_once.ensures.1 h; placed = λ n. absurd (some_none _ _ h n) }
 
 pub nest-requires : goal.nest-requires
 nest-requires g c =
     let L = g.O.LabelOrder.meaning c.args.order.now in
     let p = program c.args.variables.now c.args.records.now in
-    let h = by_once L p None (accepted _ _ _ c.in-ok-check-variables.ensures).0 (accepted _ _ _ c.in-ok-check-records.ensures).0 (accepted _ _ _ c.in-ok-check-linked-once.ensures).0 in
+    let h = by_once L p None (accepted _ _ _ c.in_ok-check_variables.ensures).0 (accepted _ _ _ c.in_ok-check_records.ensures).0 (accepted _ _ _ c.in_ok-check_linked_once.ensures).0 in
     record { linked = entries_linked L p h; fits = (omega arith, (omega arith, omega arith)) }
 
-pub check-depth-requires : goal.check-depth-requires
-check-depth-requires g c = (omega arith, (c.nest.ensures.each, omega arith))
+pub check_depth-requires : goal.check_depth-requires
+check_depth-requires g c = (omega arith, (c.nest.ensures.each, omega arith))
 
 pub returns : goal.returns
 returns g c =
     let L = g.O.LabelOrder.meaning c.args.order.now in
     let p = program c.args.variables.now c.args.records.now in
-    let h = by_once L p None (accepted _ _ _ c.in-ok-check-variables.ensures).0 (accepted _ _ _ c.in-ok-check-records.ensures).0 (accepted _ _ _ c.in-ok-check-linked-once.ensures).0 in
-    record { answers = c.check-depth.ensures ∙ sym (ap (λ o. answer o tt) (late L p h)); placed = λ _. c.nest.ensures.each }
+    let h = by_once L p None (accepted _ _ _ c.in_ok-check_variables.ensures).0 (accepted _ _ _ c.in_ok-check_records.ensures).0 (accepted _ _ _ c.in_ok-check_linked_once.ensures).0 in
+    record { answers = c.check_depth.ensures ∙ sym (ap (λ o. answer o tt) (late L p h)); placed = λ _. c.nest.ensures.each }

@@ -10,15 +10,15 @@ pub loop-j-init : goal.loop-j-init
 unfolding records_refusal
 loop-j-init g c = refl
 
-pub returns-in-err-check-record : goal.returns-in-err-check-record
+pub returns-in_err-check_record : goal.returns-in_err-check_record
 unfolding records_refusal
-returns-in-err-check-record g c =
+returns-in_err-check_record g c =
     let L = g.O.LabelOrder.meaning c.args.order.now in
     let vs = c.args.variables.now in
     let rs = c.args.records.now in
     let j = c.loop-j.j in
     leaves _ _ _ tt c.from-residual.ensures.1
-    (first_stop _ _ j _ c.loop-j-test.true c.loop-j.invariant (ap (record_refusal L vs (length rs) (j + 1)) (sym (entry rs j)) ∙ refused _ _ _ c.in-err-check-record.ensures))
+    (first_stop _ _ j _ c.loop-j-test.true c.loop-j.invariant (ap (record_refusal L vs (length rs) (j + 1)) (sym (entry rs j)) ∙ refused _ _ _ c.in_err-check_record.ensures))
 
 pub loop-j-preserved : goal.loop-j-preserved
 unfolding records_refusal
@@ -27,4 +27,4 @@ loop-j-preserved g c =
     let vs = c.args.variables.now in
     let rs = c.args.records.now in
     let j = c.loop-j.j in
-    first_clear _ j c.loop-j.invariant (ap (record_refusal L vs (length rs) (j + 1)) (sym (entry rs j)) ∙ (accepted _ _ _ c.in-ok-check-record.ensures).0)
+    first_clear _ j c.loop-j.invariant (ap (record_refusal L vs (length rs) (j + 1)) (sym (entry rs j)) ∙ (accepted _ _ _ c.in_ok-check_record.ensures).0)

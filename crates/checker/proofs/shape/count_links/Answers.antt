@@ -10,7 +10,7 @@ loop-j-preserved c k h =
     let rs = c.args.records.now in
     let j = c.loop-j.j in
     let i = c.loop-j.invariant k (omega arith) in
-    let e = c.count-record.ensures k (omega arith) in
+    let e = c.count_record.ensures k (omega arith) in
     let m = times_more rs k j (omega arith) in
     let f = few_links k (get_or rs j skip) in
     (e ∙ omega (arith, i.0, m), omega (arith, i.1))

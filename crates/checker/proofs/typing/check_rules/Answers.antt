@@ -20,7 +20,7 @@ returns-in-Some g c =
     let rs = c.args.records.now in
     let j = c.loop-j.j in
     let pl = place_read rs c.args.places.now j (record { enclosing = 0; depth = 0 }) (omega arith) (c.requires.1.0 j (omega arith)) in
-    let same = labelled_is L vs rs j _ _ _ pl c.around-surroundings.ensures c.label-operands.ensures in
+    let same = labelled_is L vs rs j _ _ _ pl c.around-surroundings.ensures c.label_operands.ensures in
     sym (ap (λ o. answer o tt) (first_stop (λ j. fault_at (j + 1) (first_broken L (labelled_at L (program vs rs) (j + 1)))) _ j (length rs) c.loop-j-test.true c.loop-j.invariant
     (ap (fault_at (j + 1)) (ap (first_broken L) (sym same) ∙ sym c.in-Some.ensures))))
 
@@ -32,6 +32,6 @@ loop-j-preserved g c =
     let rs = c.args.records.now in
     let j = c.loop-j.j in
     let pl = place_read rs c.args.places.now j (record { enclosing = 0; depth = 0 }) (omega arith) (c.requires.1.0 j (omega arith)) in
-    let same = labelled_is L vs rs j _ _ _ pl c.around-surroundings.ensures c.label-operands.ensures in
+    let same = labelled_is L vs rs j _ _ _ pl c.around-surroundings.ensures c.label_operands.ensures in
     first_clear (λ j. fault_at (j + 1) (first_broken L (labelled_at L (program vs rs) (j + 1)))) j c.loop-j.invariant
-    (ap (fault_at (j + 1)) (ap (first_broken L) (sym same) ∙ sym c.in-default.ensures))
+    (ap (fault_at (j + 1)) (ap (first_broken L) (sym same) ∙ sym c.in_default.ensures))

@@ -7,11 +7,11 @@ use Rattle.compare.proofs.comparing.compare.Goals as goal
 
 pub returns : goal.returns
 returns g c =
-    let a = c.in-ok-first.ensures.log in
-    let b = c.in-ok-second.ensures.log in
+    let a = c.in_ok-first.ensures.log in
+    let b = c.in_ok-second.ensures.log in
     record {
       logs = λ i. both (a i) (b i);
-      secret = compared (g.O.LabelOrder.meaning c.args.order.now) (sheet_program c.args.sheet.now.bytes.now) c.args.party c.in-ok-first.ensures.secrecy
+      secret = compared (g.O.LabelOrder.meaning c.args.order.now) (sheet_program c.args.sheet.now.bytes.now) c.args.party c.in_ok-first.ensures.secrecy
           (calls_of c.args.calls.now) (calls_of c.args.others.now) (g.F.Bank.cells c.args.first) (g.S.Bank.cells c.args.second)
-          (vec_items c.in-ok-first.first) (vec_items c.in-ok-second.second) a b;
+          (vec_items c.in_ok-first.first) (vec_items c.in_ok-second.second) a b;
     }

@@ -15,7 +15,7 @@ loop-call-preserved g c =
     let after = state_of g.B.Bank.cells c.perform.new.session in
     let call = get_or c.args.calls.now c.loop-call.call-index (Enter 0 0 0 0) in
     let now = subst (λ q. Performed (g.O.LabelOrder.meaning (contents q).order) (contents q).tables (call_of call) before after (vec_items c.loop-call.tape) (vec_items c.perform.new.tape)) inv.0
-    (c.in-ok-perform.ensures.performed refl) in (
+    (c.in_ok-perform.ensures.performed refl) in (
       c.perform.ensures.program ∙ inv.0,
       all_more (g.O.LabelOrder.meaning (order_of me.memory)) (tables_of me.memory) c.args.calls.now c.loop-call.call-index (Enter 0 0 0 0) before after _ _ _ c.loop-call-test.true now inv.1,
     )

@@ -4,8 +4,8 @@ use Rattle.script.specs.Fields.{fields}
 use Rattle.script.proofs.Limits.{front, fitting, each_more, each_stuck, each_none}
 use Rattle.script.proofs.bank.each.Goals as goal
 
-pub overflow-cast-n : goal.overflow-cast-n
-overflow-cast-n c = omega (arith, fitting _ _ _ (sym c.in-Some-field.ensures))
+pub overflow_cast-n : goal.overflow_cast-n
+overflow_cast-n c = omega (arith, fitting _ _ _ (sym c.in-Some-field.ensures))
 
 pub returns-in-None : goal.returns-in-None
 returns-in-None c =
@@ -13,9 +13,9 @@ returns-in-None c =
 
 pub loop-rest-preserved : goal.loop-rest-preserved
 loop-rest-preserved c =
-    each_more (vec_items c.loop-rest.all) (vec_items c.push.new.self) c.in-Some-field.n c.cut.result.0.now (fields c.cut.result.1) c.loop-rest.invariant (ap fields c.in-Some.is ∙ c.cut.ensures) c.in-Some-field.ensures c.in-ok-push.ensures.items
+    each_more (vec_items c.loop-rest.all) (vec_items c.push.new.self) c.in-Some-field.n c.cut.result.0.now (fields c.cut.result.1) c.loop-rest.invariant (ap fields c.in-Some.is ∙ c.cut.ensures) c.in-Some-field.ensures c.in_ok-push.ensures.items
 
 pub returns : goal.returns
 returns c =
     let done = vec_items c.loop-rest.all in
-    sym (c.loop-rest.invariant ∙ ap (λ o. front done (each (fields o))) c.in-default.is ∙ each_none done)
+    sym (c.loop-rest.invariant ∙ ap (λ o. front done (each (fields o))) c.in_default.is ∙ each_none done)

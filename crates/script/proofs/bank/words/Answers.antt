@@ -5,7 +5,7 @@ use Rattle.script.specs.Commands.{each, bank_words}
 use Rattle.script.specs.Fields.{fields}
 use Rattle.script.proofs.Names.{no_zeros, none_asked}
 use Rattle.script.proofs.bank.words.Goals as goal
-use Rattle.script.proofs.bank.words.Goals.{in-Some+else-eq, in-default}
+use Rattle.script.proofs.bank.words.Goals.{in-Some+else-eq, in_default}
 
 pub returns : goal.returns
 returns c =
@@ -16,7 +16,7 @@ returns c =
           ∙ ap each w.cut.ensures
           ∙ sym (no_zeros w.cut.result.0.now (fields w.cut.result.1) (not_from_Decides w.eq.result w.eq.ensures w.if-eq.false))
           ∙ sym (ap (λ o. bank_words (fields o)) w.in-Some.is ∙ ap bank_words w.cut.ensures)
-      | in-default w ↦ ap (λ o. each (fields o)) w.in-default.is ∙ none_asked ∙ sym (ap (λ o. bank_words (fields o)) w.in-default.is)
+      | in_default w ↦ ap (λ o. each (fields o)) w.in_default.is ∙ none_asked ∙ sym (ap (λ o. bank_words (fields o)) w.in_default.is)
     ]
     in
     IfOk-weaker c.each.result _ _ (λ v e. e ∙ same) c.each.ensures

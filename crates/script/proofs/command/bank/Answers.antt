@@ -4,9 +4,9 @@ use Rattle.script.specs.Fields.{fields}
 use Rattle.script.proofs.Names.{no_bank}
 use Rattle.script.proofs.command.bank.Goals as goal
 
-pub returns-in-default : goal.returns-in-default
-returns-in-default c =
+pub returns-in_default : goal.returns-in_default
+returns-in_default c =
     sym
-    (ap (λ o. bank_of (fields o)) c.in-ok-rest.was
+    (ap (λ o. bank_of (fields o)) c.in_ok-rest.was
     ∙ ap bank_of c.cut.ensures
-    ∙ no_bank c.cut.result.0.now (fields c.cut.result.1) c.in-default.not-flat c.in-default.not-share)
+    ∙ no_bank c.cut.result.0.now (fields c.cut.result.1) c.in_default.not-flat c.in_default.not-share)

@@ -13,7 +13,7 @@ returns-in-entry c =
     in
     record { value = value; back = entry_back c.args.line.now c.entry.result value }
 
-pub returns-in-default : goal.returns-in-default
-returns-in-default c =
-    let value = sym (ap entry_of c.cut.ensures ∙ no_entry c.cut.result.0.now (fields c.cut.result.1) c.in-default.not_entry) in
+pub returns-in_default : goal.returns-in_default
+returns-in_default c =
+    let value = sym (ap entry_of c.cut.ensures ∙ no_entry c.cut.result.0.now (fields c.cut.result.1) c.in_default.not_entry) in
     record { value = value; back = entry_back c.args.line.now _ value }

@@ -34,7 +34,7 @@ returns-in-log c = c.log.ensures ∙ sym (ap (λ name. asks (name ∷ fields c.a
 pub returns-in-pick : goal.returns-in-pick
 returns-in-pick c = c.pick.ensures ∙ sym (ap (λ name. asks (name ∷ fields c.args.rest)) c.in-pick.is)
 
-pub returns-in-default : goal.returns-in-default
-returns-in-default c =
+pub returns-in_default : goal.returns-in_default
+returns-in_default c =
     let name = c.args.name.now in
-    rw (other name (codes "order") c.in-default.not-order, other name (codes "sheet") c.in-default.not-sheet, other name (codes "bank") c.in-default.not-bank, other name (codes "open") c.in-default.not-open, other name (codes "enter") c.in-default.not-enter, other name (codes "start") c.in-default.not_start, other name (codes "run") c.in-default.not-run, other name (codes "look") c.in-default.not-look, other name (codes "log") c.in-default.not-log, other name (codes "pick") c.in-default.not-pick)
+    rw (other name (codes "order") c.in_default.not-order, other name (codes "sheet") c.in_default.not-sheet, other name (codes "bank") c.in_default.not-bank, other name (codes "open") c.in_default.not-open, other name (codes "enter") c.in_default.not-enter, other name (codes "start") c.in_default.not_start, other name (codes "run") c.in_default.not-run, other name (codes "look") c.in_default.not-look, other name (codes "log") c.in_default.not-log, other name (codes "pick") c.in_default.not-pick)

@@ -9,27 +9,27 @@ use Rattle.script.proofs.fields.numbers.Goals as goal
 pub loop-i-init : goal.loop-i-init
 loop-i-init g c = (length-replicate g.row.N 0, front_none (numbers c.args.limits (fields c.args.rest)))
 
-pub returns-in-err-rest : goal.returns-in-err-rest
-returns-in-err-rest g c =
+pub returns-in_err-rest : goal.returns-in_err-rest
+returns-in_err-rest g c =
     let limits = c.args.limits in
     let i = c.loop-i.i in
     let done = take i c.loop-i.read in
     let within : i < length limits = omega arith in
     c.from-residual.ensures
-    ∙ sym (c.loop-i.invariant.1 ∙ ap (λ o. front done (numbers (drop i limits) (fields o))) c.in-err-rest.was ∙ ap (front done) (short limits i within))
+    ∙ sym (c.loop-i.invariant.1 ∙ ap (λ o. front done (numbers (drop i limits) (fields o))) c.in_err-rest.was ∙ ap (front done) (short limits i within))
 
-pub returns-in-err-read : goal.returns-in-err-read
-returns-in-err-read g c =
+pub returns-in_err-read : goal.returns-in_err-read
+returns-in_err-read g c =
     let limits = c.args.limits in
     let i = c.loop-i.i in
     let done = take i c.loop-i.read in
     let within : i < length limits = omega arith in
-    c.from-residual-in-err-read.ensures
+    c.from-residual-in_err-read.ensures
     ∙ sym
     (c.loop-i.invariant.1
-    ∙ ap (λ o. front done (numbers (drop i limits) (fields o))) c.in-ok-rest.was
+    ∙ ap (λ o. front done (numbers (drop i limits) (fields o))) c.in_ok-rest.was
     ∙ ap (λ ws. front done (numbers (drop i limits) ws)) c.cut.ensures
-    ∙ ap (front done) (step limits i c.cut.result.0.now (fields c.cut.result.1) None within c.in-err-read.ensures))
+    ∙ ap (front done) (step limits i c.cut.result.0.now (fields c.cut.result.1) None within c.in_err-read.ensures))
 
 pub loop-i-preserved : goal.loop-i-preserved
 loop-i-preserved g c =
@@ -37,15 +37,15 @@ loop-i-preserved g c =
     let i = c.loop-i.i in
     let read = c.loop-i.read in
     let done = take i read in
-    let n = c.in-ok-read.field-0 in
+    let n = c.in_ok-read.field-0 in
     let rest = fields c.cut.result.1 in
     let within : i < length limits = omega arith in
     let room : i < length read = omega arith in (
       simp length-set c.loop-i.invariant.0,
       c.loop-i.invariant.1
-          ∙ ap (λ o. front done (numbers (drop i limits) (fields o))) c.in-ok-rest.was
+          ∙ ap (λ o. front done (numbers (drop i limits) (fields o))) c.in_ok-rest.was
           ∙ ap (λ ws. front done (numbers (drop i limits) ws)) c.cut.ensures
-          ∙ ap (front done) (step limits i c.cut.result.0.now rest (Some n) within c.in-ok-read.ensures)
+          ∙ ap (front done) (step limits i c.cut.result.0.now rest (Some n) within c.in_ok-read.ensures)
           ∙ front_more done n (numbers (drop (i + 1) limits) rest)
           ∙ ap (λ ns. front ns (numbers (drop (i + 1) limits) rest)) (sym (take_more_set read i n room)),
     )

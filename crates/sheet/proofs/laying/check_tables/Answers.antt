@@ -21,18 +21,18 @@ returns-then-records-lt1 c = grind (arith, nat_tests)
 pub loop-k-init : goal.loop-k-init
 loop-k-init c = (refl, omega arith, none_yet c.args.variables.now c.args.records.now)
 
-pub returns-in-err-total : goal.returns-in-err-total
-returns-in-err-total c =
+pub returns-in_err-total : goal.returns-in_err-total
+returns-in_err-total c =
     let vs = c.args.variables.now in
     let rs = c.args.records.now in
     leaves _ _ _ tt c.from-residual.ensures.1
     (counted vs rs (omega arith) (omega arith) (omega arith) (omega arith)
     ∙ refused_by_variables vs rs (record { label = 0; next = 0; form = Skip }) (omega arith) (omega arith) (omega arith) (omega arith)
-    ∙ stops vs rs c.loop-k.k _ _ c.loop-k.total (omega arith) c.variable_bytes.ensures c.loop-k.invariant.0 c.loop-k.invariant.2 _ (refused _ _ _ c.in-err-total.ensures))
+    ∙ stops vs rs c.loop-k.k _ _ c.loop-k.total (omega arith) c.variable_bytes.ensures c.loop-k.invariant.0 c.loop-k.invariant.2 _ (refused _ _ _ c.in_err-total.ensures))
 
 pub loop-k-preserved : goal.loop-k-preserved
 loop-k-preserved c =
-    let h = accepted _ _ _ c.in-ok-total.ensures in
+    let h = accepted _ _ _ c.in_ok-total.ensures in
     goes_on c.args.variables.now c.args.records.now c.loop-k.k _ _ c.loop-k.total (omega arith) c.variable_bytes.ensures c.loop-k.invariant.0 c.loop-k.invariant.2 _ h.0 h.1
 
 pub returns : goal.returns

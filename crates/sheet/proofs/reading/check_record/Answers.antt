@@ -24,9 +24,9 @@ loop-i-preserved c = first_clear _ c.loop-i.i c.loop-i.invariant (
       | else-not-used-via-else-not-used w ↦ byte_used c.args.p c.args.part.now c.loop-i.i (sym c.used.ensures ∙ w.if-not-used.false)
     ])
 
-pub returns-then-is-none : goal.returns-then-is-none
+pub returns-then-is_none : goal.returns-then-is_none
 unfolding record_refusal
-returns-then-is-none c =
+returns-then-is_none c =
     let e : c.loop-i.i ≡ 12 = omega arith in
     let s = subst (λ n. first_below (byte_refusal c.args.p c.args.part.now) n ≡ None) e c.loop-i.invariant in
     grind (arith, nat_tests, s)

@@ -8,12 +8,12 @@ pub loop-k-init : goal.loop-k-init
 unfolding records_refusal
 loop-k-init c = refl
 
-pub returns-in-err-check-record : goal.returns-in-err-check-record
+pub returns-in_err-check_record : goal.returns-in_err-check_record
 unfolding records_refusal
-returns-in-err-check-record c =
+returns-in_err-check_record c =
     leaves _ _ _ tt c.from-residual.ensures.1
-    (first_stop _ _ c.loop-k.k _ c.loop-k-test.true c.loop-k.invariant (refused _ _ _ c.in-err-check-record.ensures))
+    (first_stop _ _ c.loop-k.k _ c.loop-k-test.true c.loop-k.invariant (refused _ _ _ c.in_err-check_record.ensures))
 
 pub loop-k-preserved : goal.loop-k-preserved
 unfolding records_refusal
-loop-k-preserved c = first_clear _ c.loop-k.k c.loop-k.invariant (accepted _ _ _ c.in-ok-check-record.ensures).0
+loop-k-preserved c = first_clear _ c.loop-k.k c.loop-k.invariant (accepted _ _ _ c.in_ok-check_record.ensures).0

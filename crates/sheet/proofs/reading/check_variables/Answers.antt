@@ -10,18 +10,18 @@ pub loop-k-init : goal.loop-k-init
 unfolding variables_refusal
 loop-k-init c = (refl, omega arith, refl)
 
-pub returns-in-err-total : goal.returns-in-err-total
+pub returns-in_err-total : goal.returns-in_err-total
 unfolding variables_refusal
-returns-in-err-total c =
+returns-in_err-total c =
     let same = ap (λ b. variable_refusal (variable_place c.loop-k.k) b (variable_part c.args.bytes.now c.loop-k.k)) c.loop-k.invariant.0 in
     leaves _ _ _ tt c.from-residual.ensures.1
-    (first_stop _ _ c.loop-k.k _ c.loop-k-test.true c.loop-k.invariant.2 (sym same ∙ refused _ _ _ c.in-err-total.ensures))
+    (first_stop _ _ c.loop-k.k _ c.loop-k-test.true c.loop-k.invariant.2 (sym same ∙ refused _ _ _ c.in_err-total.ensures))
 
 pub loop-k-preserved : goal.loop-k-preserved
 unfolding variables_refusal variable_refusal
 loop-k-preserved c =
-    let h = accepted _ _ _ c.in-ok-total.ensures in
-    let few : c.in-ok-total.total ≤ 16384 = grind (arith, nat_tests, h.0, h.1) in
+    let h = accepted _ _ _ c.in_ok-total.ensures in
+    let few : c.in_ok-total.total ≤ 16384 = grind (arith, nat_tests, h.0, h.1) in
     let same = ap (λ b. variable_refusal (variable_place c.loop-k.k) b (variable_part c.args.bytes.now c.loop-k.k)) c.loop-k.invariant.0 in (
       h.1 ∙ ap (λ b. b + word16 (variable_part c.args.bytes.now c.loop-k.k) 2) c.loop-k.invariant.0 ∙ sym (ap (cells_below c.args.bytes.now) (add-one c.loop-k.k)),
       few,

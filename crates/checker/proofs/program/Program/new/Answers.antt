@@ -4,6 +4,6 @@ use Rattle.model.specs.Nesting.{record_at}
 use Rattle.checker.specs.Checks.{tables_fit}
 use Rattle.checker.proofs.program.Program.new.Goals as goal
 
-pub invariant-of-result : goal.invariant-of-result
+pub invariant_of-result : goal.invariant_of-result
 unfolding tables_fit record_at
-invariant-of-result g c = ((omega arith, omega arith, omega arith), (refl, tt))
+invariant_of-result g c = ((omega arith, omega arith, omega arith), (refl, tt))

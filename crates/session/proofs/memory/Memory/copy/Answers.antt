@@ -9,14 +9,14 @@ use Rattle.session.proofs.Laying.{start_at}
 use Rattle.session.proofs.Copying.{arrays_apart, copied_is}
 use Rattle.session.proofs.memory.Memory.copy.Goals as goal
 
-pub bounds-self-a : goal.bounds-self-a
-bounds-self-a g c = omega (arith, few_variables c.args.self.now.program, c.requires.variables.1)
+pub bounds_self-a : goal.bounds_self-a
+bounds_self-a g c = omega (arith, few_variables c.args.self.now.program, c.requires.variables.1)
 
-pub bounds-self-x : goal.bounds-self-x
-bounds-self-x g c = omega (arith, few_variables c.args.self.now.program, c.requires.variables.0)
+pub bounds_self-x : goal.bounds_self-x
+bounds_self-x g c = omega (arith, few_variables c.args.self.now.program, c.requires.variables.0)
 
-pub copy-cells-requires : goal.copy-cells-requires
-copy-cells-requires g c =
+pub copy_cells-requires : goal.copy_cells-requires
+copy_cells-requires g c =
     let me = c.args.self.now in
     let p = tables_of me in
     let few = few_variables me.program in
@@ -39,7 +39,7 @@ returns g c =
     record {
       memory =
           ap (λ (row : List ℕ). record { numbers = take (length p.variables) me.numbers; cells = row })
-          (c.copy-cells.ensures ∙ (λ i. copied_cells (from i) (to i) (size i) (g.B.Bank.cells me.bank)))
+          (c.copy_cells.ensures ∙ (λ i. copied_cells (from i) (to i) (size i) (g.B.Bank.cells me.bank)))
           ∙ copied_is p c.args.x c.args.a c.requires.variables.0 c.requires.variables.1 c.requires.arrays.0 c.requires.arrays.1 (memory_of g.B.Bank.cells me) _;
       program = refl;
     }

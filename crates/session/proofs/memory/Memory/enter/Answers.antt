@@ -4,8 +4,8 @@ use Rattle.session.specs.Memories.{tables_of, memory_of}
 use Rattle.session.proofs.Placing.{has_variable, enter_number, enter_array}
 use Rattle.session.proofs.memory.Memory.enter.Goals as goal
 
-pub set-number-requires : goal.set-number-requires
-set-number-requires g c =
+pub set_number-requires : goal.set_number-requires
+set_number-requires g c =
     let me = c.args.self.now in
     (has_variable (tables_of me) (memory_of g.B.Bank.cells me) c.args.v c.args.i c.requires, ap (λ (t : Variable). t.kind) (sym c.variable.ensures) ∙ c.in-Number.is)
 
@@ -19,8 +19,8 @@ returns-in-Number g c =
     let me = c.args.self.now in
     let k = ap (λ (t : Variable). t.kind) (sym c.variable.ensures) ∙ c.in-Number.is in
     record {
-      memory = c.set-number.ensures.memory ∙ enter_number (tables_of me) (memory_of g.B.Bank.cells me) c.args.v c.args.i c.requires c.args.value k;
-      program = c.set-number.ensures.program;
+      memory = c.set_number.ensures.memory ∙ enter_number (tables_of me) (memory_of g.B.Bank.cells me) c.args.v c.args.i c.requires c.args.value k;
+      program = c.set_number.ensures.program;
     }
 
 pub returns-in-Array : goal.returns-in-Array

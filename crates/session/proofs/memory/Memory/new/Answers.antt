@@ -8,7 +8,7 @@ use Rattle.session.proofs.memory.Memory.new.Goals as goal
 pub returns : goal.returns
 returns g c =
     let p = (contents c.args.program).tables in
-    let last = start_last p c.first-cells-starts.result c.first-cells-starts.ensures c.variable_count_of.result c.variable_count_of.ensures.count c.variable_count_of.ensures.few in
+    let last = start_last p c.first_cells-starts.result c.first_cells-starts.ensures c.variable_count.result c.variable_count.ensures.count c.variable_count.ensures.few in
     record {
       memory = opened_memory p (g.B.Bank.cells c.args.bank) (g.B.Bank.cells c.clear.new.bank) _ _ (few_variables c.args.program) last refl c.clear.ensures;
       program = refl;

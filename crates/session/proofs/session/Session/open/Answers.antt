@@ -4,8 +4,8 @@ use Rattle.session.specs.Stacks.{pile}
 use Rattle.session.proofs.Moving.{first_climbs, first_clean}
 use Rattle.session.proofs.session.Session.open.Goals as goal
 
-pub invariant-of-result : goal.invariant-of-result
-invariant-of-result g c = (first_climbs c.new.result.program (pile c.new-2.result) c.new-2.ensures, (first_clean (pile c.new-2.result) c.new-2.ensures, tt))
+pub invariant_of-result : goal.invariant_of-result
+invariant_of-result g c = (first_climbs c.new.result.program (pile c.new-2.result) c.new-2.ensures, (first_clean (pile c.new-2.result) c.new-2.ensures, tt))
 
 pub returns : goal.returns
 unfolding opened

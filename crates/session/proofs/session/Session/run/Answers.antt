@@ -8,9 +8,9 @@ pub returns : goal.returns
 returns g c =
     let me = c.args.self.now in
     record {
-      answers = c.try-run.ensures.answers;
-      state = c.try-run.ensures.state;
-      tape = c.try-run.ensures.tape;
-      program = c.try-run.ensures.program;
+      answers = c.try_run.ensures.answers;
+      state = c.try_run.ensures.state;
+      tape = c.try_run.ensures.tape;
+      program = c.try_run.ensures.program;
       pieces = in_pieces (g.O.LabelOrder.meaning (order_of me.memory)) (tables_of me.memory) (config_of g.B.Bank.cells me) c.args.steps (length c.args.tape.now);
     }

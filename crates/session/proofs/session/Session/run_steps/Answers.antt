@@ -8,7 +8,7 @@ use Rattle.session.specs.Memories.{tables_of, order_of}
 use Rattle.session.specs.States.{config_of}
 use Rattle.session.proofs.Running.{not_ended, run_more, run_ended, run_spent, run_full, run_report, run_config, run_tape}
 use Rattle.session.proofs.session.Session.run_steps.Goals as goal
-use Rattle.session.proofs.session.Session.run_steps.Goals.{then-loop-self-test+then-taken-limit+else-tape-at-ge-MOST-ENTRIES, then-loop-self-test+else-taken-limit, else-loop-self-test}
+use Rattle.session.proofs.session.Session.run_steps.Goals.{then-loop-self-test+then-taken-limit+else-tape-at-ge-MOST_ENTRIES, then-loop-self-test+else-taken-limit, else-loop-self-test}
 
 pub step-at-requires : goal.step-at-requires
 step-at-requires g c = (not_ended (config_of g.B.Bank.cells c.loop-self.self) (sym c.loop-self-test.ensures), omega arith)
@@ -23,7 +23,7 @@ loop-self-preserved g c =
     let more = run_more (g.O.LabelOrder.meaning (order_of c.args.self.now.memory)) (tables_of c.args.self.now.memory) c.args.limit c.loop-self.taken
     c.loop-self.at c.step_at.result c.loop-self.tape c.args.tape.now c.step_at.new.tape
     now (config_of g.B.Bank.cells c.step_at.new.self) _
-    c.if-taken-limit.true c.if-tape-at-ge-MOST-ENTRIES.true (sym c.loop-self-test.ensures)
+    c.if-taken-limit.true c.if-tape-at-ge-MOST_ENTRIES.true (sym c.loop-self-test.ensures)
     wrote next after c.step_at.auto.tape inv.4 inv.5 in
     (c.step_at.ensures.program ∙ inv.0, c.step_at.ensures.started ∙ inv.1, omega arith, more.0, more.1, more.2)
 
@@ -65,7 +65,7 @@ returns-else-taken-limit-2 g c =
     let p = tables_of c.args.self.now.memory in
     let full : length c.loop-self.tape - c.loop-self.at < 6 =
     elim c.loop-self-test.branch [
-      | then-loop-self-test+then-taken-limit+else-tape-at-ge-MOST-ENTRIES w ↦ omega arith
+      | then-loop-self-test+then-taken-limit+else-tape-at-ge-MOST_ENTRIES w ↦ omega arith
       | then-loop-self-test+else-taken-limit w ↦ omega arith
       | else-loop-self-test w ↦ absurd (true≢false (w.loop-self-test.ensures ∙ sym c.if-ended.ensures))
     ] in

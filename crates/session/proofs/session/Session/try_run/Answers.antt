@@ -28,8 +28,8 @@ returns-then-ended g c =
     let e = run_by L p s c.args.steps (length c.args.tape.now) true true _ c.if-not-self.false (sym c.if-ended.ensures) refl in
     record { answers = sym (ap (λ o. answer o (reported (ran_of g.O.LabelOrder.meaning g.B.Bank.cells c.args.steps (length c.args.tape.now) me))) e); state = refused_state L p (run c.args.steps (length c.args.tape.now)) s Ended e; tape = refused_tape L p (run c.args.steps (length c.args.tape.now)) s Ended c.args.tape.now e; program = refl }
 
-pub returns-then-tape-lt-MOST-ENTRIES : goal.returns-then-tape-lt-MOST-ENTRIES
-returns-then-tape-lt-MOST-ENTRIES g c =
+pub returns-then-tape-lt-MOST_ENTRIES : goal.returns-then-tape-lt-MOST_ENTRIES
+returns-then-tape-lt-MOST_ENTRIES g c =
     let me = c.args.self.now in
     let L = g.O.LabelOrder.meaning (order_of me.memory) in
     let p = tables_of me.memory in
@@ -44,11 +44,11 @@ returns g c =
     let p = tables_of me.memory in
     let s = state_of g.B.Bank.cells me in
     let e = run_by L p s c.args.steps (length c.args.tape.now) true false true c.if-not-self.false (sym c.if-ended.ensures) (le-leb 6 (length c.args.tape.now) (omega arith)) in
-    let config = c.run-steps.ensures.config in
-    let on = c.run-steps.ensures.started in
+    let config = c.run_steps.ensures.config in
+    let on = c.run_steps.ensures.started in
     record {
-      answers = ap (λ x. answer {F = SessionFault} None x) c.run-steps.ensures.report ∙ sym (ap (λ o. answer o (reported (ran_of g.O.LabelOrder.meaning g.B.Bank.cells c.args.steps (length c.args.tape.now) me))) e);
+      answers = ap (λ x. answer {F = SessionFault} None x) c.run_steps.ensures.report ∙ sym (ap (λ o. answer o (reported (ran_of g.O.LabelOrder.meaning g.B.Bank.cells c.args.steps (length c.args.tape.now) me))) e);
       state = (λ i. record { config = config i; started = on i }) ∙ granted_state L p (run c.args.steps (length c.args.tape.now)) s e;
-      tape = c.run-steps.ensures.tape ∙ granted_tape L p (run c.args.steps (length c.args.tape.now)) s c.args.tape.now e;
-      program = c.run-steps.ensures.program;
+      tape = c.run_steps.ensures.tape ∙ granted_tape L p (run c.args.steps (length c.args.tape.now)) s c.args.tape.now e;
+      program = c.run_steps.ensures.program;
     }

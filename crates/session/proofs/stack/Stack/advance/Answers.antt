@@ -17,6 +17,6 @@ returns-else-above-ne0 c =
     let es = c.args.self.now.entries in
     let d = c.args.self.now.depth in
     rw (below_top_first es d)
-    (c.clean-depth-self.ensures.0
+    (c.clean_depth-self.ensures.0
     ∙ ap stripped (top_first_replace es c.args.next d (depth_positive es d c.requires.0) (omega arith))
     ∙ stripped_none _ _ c.if-above-ne0.false)

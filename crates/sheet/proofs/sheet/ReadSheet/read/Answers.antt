@@ -5,7 +5,7 @@ use Rattle.sheet.proofs.sheet.ReadSheet.read.Goals as goal
 pub returns : goal.returns
 returns c =
     record {
-      answers = c.take-over.ensures.answers;
-      after = c.take-over.ensures.after;
-      exact = reads_exactly c.args.bytes.now (λ i. omega (arith, c.type-inv.bytes i)) _ c.take-over.ensures.answers;
+      answers = c.take_over.ensures.answers;
+      after = c.take_over.ensures.after;
+      exact = reads_exactly c.args.bytes.now (λ i. omega (arith, c.ok.bytes i)) _ c.take_over.ensures.answers;
     }
