@@ -46,8 +46,8 @@ fn check_shape<O: LabelOrder>(
     places: &mut [Place],
 ) -> Result<(), ShapeFault>
     requires fits { (1 ≤ length records.now) × ((length records.now ≤ 512) × (length records.now ≤ length places.old)) }
-    ensures answers { result ≡ answer (shape_refusal (meaning order.now) (program variables.now records.now)) tt }
-    ensures placed { shape_refusal (meaning order.now) (program variables.now records.now) ≡ None → (j : ℕ) → j < length records.now → slice_get places.new j ≡ Some (place records.now (j + 1)) }
+    ensures answers { result ≡ answer (shape_refusal (O.meaning order.now) (program variables.now records.now)) tt }
+    ensures placed { shape_refusal (O.meaning order.now) (program variables.now records.now) ≡ None → (j : ℕ) → j < length records.now → slice_get places.new j ≡ Some (place records.now (j + 1)) }
 {
     check_variables(order, variables)?;
     check_records(order, variables, records)?;
@@ -62,7 +62,7 @@ fn check<O: LabelOrder>(
     records: &[Record],
 ) -> Result<(), Refusal>
     requires fits { (1 ≤ length records.now) × (length records.now ≤ 512) }
-    ensures { result ≡ answer (accept_refusal (meaning order.now) (program variables.now records.now)) tt }
+    ensures { result ≡ answer (accept_refusal (O.meaning order.now) (program variables.now records.now)) tt }
 {
     let mut places = [Place {
         enclosing: 0,
@@ -76,7 +76,7 @@ fn check<O: LabelOrder>(
 impl<O: LabelOrder> Program<O> {
     // One number and one skip, labelled P: what a host lends to `accept`.
     pub fn new(order: O) -> Program<O>
-        ensures { contents result ≡ holding order (smallest (meaning order).public) }
+        ensures { contents result ≡ holding order (smallest (O.meaning order).public) }
     {
         let label = order.public();
         Program {
@@ -101,7 +101,7 @@ fn take_over<O: LabelOrder>(
     order: &O,
     program: &mut Program<O>,
 ) -> Result<(), Refusal>
-    ensures answers { result ≡ answer (accept_refusal (meaning order.now) (sheet_program sheet.now.bytes.now)) tt }
+    ensures answers { result ≡ answer (accept_refusal (O.meaning order.now) (sheet_program sheet.now.bytes.now)) tt }
     ensures filled { contents program.new ≡ (if is_ok result then holding order.now (sheet_program sheet.now.bytes.now) else contents program.old) }
 {
     let n = sheet.variables();
@@ -127,9 +127,9 @@ pub fn accept<O: LabelOrder>(
     order: &O,
     program: &mut Program<O>,
 ) -> Result<(), Refusal>
-    ensures answers { result ≡ answer (accept_refusal (meaning order.now) (sheet_program sheet.now.bytes.now)) tt }
+    ensures answers { result ≡ answer (accept_refusal (O.meaning order.now) (sheet_program sheet.now.bytes.now)) tt }
     ensures filled { contents program.new ≡ (if is_ok result then holding order.now (sheet_program sheet.now.bytes.now) else contents program.old) }
-    ensures verdict { Verdict (meaning order.now) (sheet_program sheet.now.bytes.now) result }
+    ensures verdict { Verdict (O.meaning order.now) (sheet_program sheet.now.bytes.now) result }
 {
     take_over(sheet, order, program)
 }

@@ -14,7 +14,7 @@ pub(crate) fn check_variables<O: LabelOrder>(
     order: &O,
     variables: &[Variable],
 ) -> Result<(), ShapeFault>
-    ensures { result ≡ answer (variables_refusal (meaning order.now) variables.now (length variables.now)) tt }
+    ensures { result ≡ answer (variables_refusal (O.meaning order.now) variables.now (length variables.now)) tt }
 {
     for v in 0..variables.len() {
         if !order.knows(variables[v].label) {
@@ -30,7 +30,7 @@ pub(crate) fn check_records<O: LabelOrder>(
     records: &[Record],
 ) -> Result<(), ShapeFault>
     requires { length records.now ≤ 512 }
-    ensures { result ≡ answer (records_refusal (meaning order.now) variables.now records.now (length records.now)) tt }
+    ensures { result ≡ answer (records_refusal (O.meaning order.now) variables.now records.now (length records.now)) tt }
 {
     let n = records.len();
     for j in 0..n {

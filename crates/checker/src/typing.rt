@@ -19,7 +19,7 @@ pub(crate) fn check_rules<O: LabelOrder>(
     places: &[Place],
 ) -> Result<(), RuleFault>
     requires { (length records.now ≤ 512) × ((((j : ℕ) → j < length records.now → slice_get places.now j ≡ Some (place records.now (j + 1)))) × (length records.now ≤ length places.now)) }
-    ensures { result ≡ answer (rules_refusal (meaning order.now) (program variables.now records.now) (length records.now)) tt }
+    ensures { result ≡ answer (rules_refusal (O.meaning order.now) (program variables.now records.now) (length records.now)) tt }
 {
     for j in 0..records.len() {
         let entry = records[j];

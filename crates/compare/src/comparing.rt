@@ -25,7 +25,7 @@ fn make_log<O: LabelOrder>(
     tape: &[Entry],
     heap: Global,
 ) -> Result<Vec<Entry>, CompareFault>
-    ensures { or_memory result (map_ok vec_items result ≡ picked_log (meaning order.now) party tape.now) }
+    ensures { or_memory result (map_ok vec_items result ≡ picked_log (O.meaning order.now) party tape.now) }
 {
     let mut log = Vec::new(heap);
     log.resize(tape.len(), BLANK)?;
@@ -43,8 +43,8 @@ fn log_session<O: LabelOrder, B: Bank + Drop>(
     party: u8,
     heap: Global,
 ) -> Result<Vec<Entry>, CompareFault>
-    ensures log { or_memory result (map_ok vec_items result ≡ logged (meaning order.now) (sheet_program sheet.now.bytes.now) party (calls_of calls.now) (cells bank)) }
-    ensures secrecy { OnOk result (Secrecy (meaning order.now) (sheet_program sheet.now.bytes.now)) }
+    ensures log { or_memory result (map_ok vec_items result ≡ logged (O.meaning order.now) (sheet_program sheet.now.bytes.now) party (calls_of calls.now) (B.cells bank)) }
+    ensures secrecy { OnOk result (Secrecy (O.meaning order.now) (sheet_program sheet.now.bytes.now)) }
 {
     let mut program = Program::new(*order);
     accept(sheet, order, &mut program)?;
@@ -65,8 +65,8 @@ pub fn compare<O: LabelOrder, F: Bank + Drop, S: Bank + Drop>(
     others: &[Call],
     heap: Global,
 ) -> Result<Logs, CompareFault>
-    ensures logs { or_memory result (map_ok (λ l. (l.first.items, l.second.items)) result ≡ both (logged (meaning order.now) (sheet_program sheet.now.bytes.now) party (calls_of calls.now) (F.Bank.cells first)) (logged (meaning order.now) (sheet_program sheet.now.bytes.now) party (calls_of others.now) (S.Bank.cells second))) }
-    ensures secret { IfOk result (λ l. Compared (meaning order.now) (sheet_program sheet.now.bytes.now) party (calls_of calls.now) (F.Bank.cells first) (calls_of others.now) (S.Bank.cells second) l.first.items l.second.items) }
+    ensures logs { or_memory result (map_ok (λ l. (l.first.items, l.second.items)) result ≡ both (logged (O.meaning order.now) (sheet_program sheet.now.bytes.now) party (calls_of calls.now) (F.Bank.cells first)) (logged (O.meaning order.now) (sheet_program sheet.now.bytes.now) party (calls_of others.now) (S.Bank.cells second))) }
+    ensures secret { IfOk result (λ l. Compared (O.meaning order.now) (sheet_program sheet.now.bytes.now) party (calls_of calls.now) (F.Bank.cells first) (calls_of others.now) (S.Bank.cells second) l.first.items l.second.items) }
 {
     let first = log_session(sheet, order, first, calls, party, heap)?;
     let second = log_session(sheet, order, second, others, party, heap)?;

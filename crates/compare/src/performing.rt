@@ -30,8 +30,8 @@ fn run_entries<O: LabelOrder, B: Bank>(
     room: usize,
     heap: Global,
 ) -> Result<Vec<Entry>, AllocError>
-    ensures state { is_ok result ≡ true → state_of cells session.new ≡ (done meaning cells (run steps room) session.old).state }
-    ensures entries { IfOk result (λ v. v.items ≡ (done meaning cells (run steps room) session.old).tape) }
+    ensures state { is_ok result ≡ true → state_of B.cells session.new ≡ (done O.meaning B.cells (run steps room) session.old).state }
+    ensures entries { IfOk result (λ v. v.items ≡ (done O.meaning B.cells (run steps room) session.old).tape) }
     ensures program { session.new.memory.program ≡ session.old.memory.program }
 {
     let mut tape = Vec::new(heap);
@@ -48,7 +48,7 @@ fn perform<O: LabelOrder, B: Bank>(
     tape: &mut Vec<Entry>,
     heap: Global,
 ) -> Result<(), AllocError>
-    ensures performed { is_ok result ≡ true → Performed (meaning (order_of session.old.memory)) (tables_of session.old.memory) (call_of call) (state_of cells session.old) (state_of cells session.new) tape.old.items tape.new.items }
+    ensures performed { is_ok result ≡ true → Performed (O.meaning (order_of session.old.memory)) (tables_of session.old.memory) (call_of call) (state_of B.cells session.old) (state_of B.cells session.new) tape.old.items tape.new.items }
     ensures program { session.new.memory.program ≡ session.old.memory.program }
 {
     match call {
@@ -84,7 +84,7 @@ pub(crate) fn perform_all<O: LabelOrder, B: Bank>(
     calls: &[Call],
     heap: Global,
 ) -> Result<Vec<Entry>, AllocError>
-    ensures { IfOk result (λ v. v.items ≡ (after (meaning (order_of session.old.memory)) (tables_of session.old.memory) (calls_of calls.now) (state_of cells session.old)).tape) }
+    ensures { IfOk result (λ v. v.items ≡ (after (O.meaning (order_of session.old.memory)) (tables_of session.old.memory) (calls_of calls.now) (state_of B.cells session.old)).tape) }
 {
     let mut tape = Vec::new(heap);
     for call in calls {

@@ -35,9 +35,9 @@ fn perform<B: Bank>(
     row: CallRow,
     tape: &mut [Entry],
 ) -> AnswerRow
-    ensures answer { result ≡ row_answer two_party (tables_of session.old.memory) row.call (call_of (length tape.old) row) (state_of cells session.old) }
-    ensures state { state_of cells session.new ≡ row_state two_party (tables_of session.old.memory) (call_of (length tape.old) row) (state_of cells session.old) }
-    ensures tape { tape.new ≡ row_tape two_party (tables_of session.old.memory) (call_of (length tape.old) row) (state_of cells session.old) tape.old }
+    ensures answer { result ≡ row_answer two_party (tables_of session.old.memory) row.call (call_of (length tape.old) row) (state_of B.cells session.old) }
+    ensures state { state_of B.cells session.new ≡ row_state two_party (tables_of session.old.memory) (call_of (length tape.old) row) (state_of B.cells session.old) }
+    ensures tape { tape.new ≡ row_tape two_party (tables_of session.old.memory) (call_of (length tape.old) row) (state_of B.cells session.old) tape.old }
     ensures program { session.new.memory.program ≡ session.old.memory.program }
 {
     match row.call {
@@ -57,8 +57,8 @@ fn perform_all<B: Bank>(
     answers: &mut [AnswerRow],
 )
     requires { length calls.now ≤ length answers.old }
-    ensures tape { tape.new ≡ (played two_party (tables_of session.old.memory) calls.now 0 (state_of cells session.old) tape.old answers.old).tape }
-    ensures answers { answers.new ≡ (played two_party (tables_of session.old.memory) calls.now 0 (state_of cells session.old) tape.old answers.old).answers }
+    ensures tape { tape.new ≡ (played two_party (tables_of session.old.memory) calls.now 0 (state_of B.cells session.old) tape.old answers.old).tape }
+    ensures answers { answers.new ≡ (played two_party (tables_of session.old.memory) calls.now 0 (state_of B.cells session.old) tape.old answers.old).answers }
 {
     for k in 0..calls.len() {
         answers[k] = perform(session, calls[k], tape);
@@ -75,8 +75,8 @@ pub(crate) fn play<B: Bank + Drop>(
     answers: &mut [AnswerRow],
 ) -> AnswerRow
     ensures answer { result ≡ play_row sheet.now calls.now answers.old }
-    ensures tape { tape.new ≡ (play_over result sheet.now (cells bank) calls.now tape.old answers.old).tape }
-    ensures answers { answers.new ≡ (play_over result sheet.now (cells bank) calls.now tape.old answers.old).answers }
+    ensures tape { tape.new ≡ (play_over result sheet.now (B.cells bank) calls.now tape.old answers.old).tape }
+    ensures answers { answers.new ≡ (play_over result sheet.now (B.cells bank) calls.now tape.old answers.old).answers }
 {
     if answers.len() < calls.len() {
         return slip(9, calls.len() as u64);

@@ -147,7 +147,7 @@ pub fn check_record<O: LabelOrder>(
     k: usize,
     entry: Record,
 ) -> Result<(), ShapeFault>
-    ensures { result ≡ answer (record_refusal (meaning order.now) variables.now n k entry) tt }
+    ensures { result ≡ answer (record_refusal (O.meaning order.now) variables.now n k entry) tt }
 {
     if !order.knows(entry.label) {
         return Err(ShapeFault::RecordLabel(k));

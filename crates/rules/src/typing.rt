@@ -52,7 +52,7 @@ pub fn label_operands(vs: &[Variable], s: u8, l: u8, form: Form) -> Labelled
 
 // The join of all labels that a record of forms 1 to 6 reads.
 pub fn label_read<O: LabelOrder>(order: &O, r: Labelled) -> u8
-    ensures { result ≡ join_all (meaning order.now) (labels_read r) }
+    ensures { result ≡ join_all (O.meaning order.now) (labels_read r) }
 {
     match r.form {
         1 => r.a,
@@ -64,7 +64,7 @@ pub fn label_read<O: LabelOrder>(order: &O, r: Labelled) -> u8
 
 // The lowest rule that a record breaks in its surroundings.
 pub fn broken_rule<O: LabelOrder>(order: &O, r: Labelled) -> Option<Rule>
-    ensures { result ≡ first_broken (meaning order.now) r }
+    ensures { result ≡ first_broken (O.meaning order.now) r }
 {
     let public = order.public();
     let secret = order.secret();
@@ -84,7 +84,7 @@ pub fn broken_rule<O: LabelOrder>(order: &O, r: Labelled) -> Option<Rule>
 
 // The label of the record that encloses, P where none does.
 pub fn around<O: LabelOrder>(order: &O, records: &[Record], enclosing: u16) -> u8
-    ensures { result ≡ (if nat_eq enclosing 0 then (meaning order.now).public else (record_at records.now enclosing).label) }
+    ensures { result ≡ (if nat_eq enclosing 0 then (O.meaning order.now).public else (record_at records.now enclosing).label) }
 {
     if enclosing == 0 {
         order.public()

@@ -25,7 +25,7 @@ fn copy<O: LabelOrder, B: Bank>(
     at: usize,
 ) -> usize
     requires { (Runs (tables_of memory.old) (Form.Copy x a)) × (at + 6 ≤ length tape.old) }
-    ensures acts { Acts (meaning (order_of memory.old)) (tables_of memory.old) n label (Form.Copy x a) (memory_of cells memory.old) (memory_of cells memory.new) tape.old tape.new at result }
+    ensures acts { Acts (O.meaning (order_of memory.old)) (tables_of memory.old) n label (Form.Copy x a) (memory_of B.cells memory.old) (memory_of B.cells memory.new) tape.old tape.new at result }
     ensures program { memory.new.program ≡ memory.old.program }
 {
     let value = memory.number(a);
@@ -46,7 +46,7 @@ fn constant<O: LabelOrder, B: Bank>(
     at: usize,
 ) -> usize
     requires { (Runs (tables_of memory.old) (Form.Constant x value)) × (at + 6 ≤ length tape.old) }
-    ensures acts { Acts (meaning (order_of memory.old)) (tables_of memory.old) n label (Form.Constant x value) (memory_of cells memory.old) (memory_of cells memory.new) tape.old tape.new at result }
+    ensures acts { Acts (O.meaning (order_of memory.old)) (tables_of memory.old) n label (Form.Constant x value) (memory_of B.cells memory.old) (memory_of B.cells memory.new) tape.old tape.new at result }
     ensures program { memory.new.program ≡ memory.old.program }
 {
     memory.set_number(x, value);
@@ -67,7 +67,7 @@ fn binary<O: LabelOrder, B: Bank>(
     at: usize,
 ) -> usize
     requires { (Runs (tables_of memory.old) (Form.Binary x a b op)) × (at + 6 ≤ length tape.old) }
-    ensures acts { Acts (meaning (order_of memory.old)) (tables_of memory.old) n label (Form.Binary x a b op) (memory_of cells memory.old) (memory_of cells memory.new) tape.old tape.new at result }
+    ensures acts { Acts (O.meaning (order_of memory.old)) (tables_of memory.old) n label (Form.Binary x a b op) (memory_of B.cells memory.old) (memory_of B.cells memory.new) tape.old tape.new at result }
     ensures program { memory.new.program ≡ memory.old.program }
 {
     let left = memory.number(a);
@@ -92,7 +92,7 @@ fn fetch<O: LabelOrder, B: Bank>(
     at: usize,
 ) -> usize
     requires { (Runs (tables_of memory.old) (Form.Fetch x a b)) × (at + 6 ≤ length tape.old) }
-    ensures acts { Acts (meaning (order_of memory.old)) (tables_of memory.old) n label (Form.Fetch x a b) (memory_of cells memory.old) (memory_of cells memory.new) tape.old tape.new at result }
+    ensures acts { Acts (O.meaning (order_of memory.old)) (tables_of memory.old) n label (Form.Fetch x a b) (memory_of B.cells memory.old) (memory_of B.cells memory.new) tape.old tape.new at result }
     ensures program { memory.new.program ≡ memory.old.program }
 {
     let index = memory.number(b);
@@ -117,7 +117,7 @@ fn choose<O: LabelOrder, B: Bank>(
     at: usize,
 ) -> usize
     requires { (Runs (tables_of memory.old) (Form.Mux x a b c)) × (at + 6 ≤ length tape.old) }
-    ensures acts { Acts (meaning (order_of memory.old)) (tables_of memory.old) n label (Form.Mux x a b c) (memory_of cells memory.old) (memory_of cells memory.new) tape.old tape.new at result }
+    ensures acts { Acts (O.meaning (order_of memory.old)) (tables_of memory.old) n label (Form.Mux x a b c) (memory_of B.cells memory.old) (memory_of B.cells memory.new) tape.old tape.new at result }
     ensures program { memory.new.program ≡ memory.old.program }
 {
     let test = memory.number(a);
@@ -144,7 +144,7 @@ fn store<O: LabelOrder, B: Bank>(
     at: usize,
 ) -> usize
     requires { (Runs (tables_of memory.old) (Form.Store x a b)) × (at + 6 ≤ length tape.old) }
-    ensures acts { Acts (meaning (order_of memory.old)) (tables_of memory.old) n label (Form.Store x a b) (memory_of cells memory.old) (memory_of cells memory.new) tape.old tape.new at result }
+    ensures acts { Acts (O.meaning (order_of memory.old)) (tables_of memory.old) n label (Form.Store x a b) (memory_of B.cells memory.old) (memory_of B.cells memory.new) tape.old tape.new at result }
     ensures program { memory.new.program ≡ memory.old.program }
 {
     let index = memory.number(a);
@@ -167,7 +167,7 @@ fn declass<O: LabelOrder, B: Bank>(
     at: usize,
 ) -> usize
     requires { (Runs (tables_of memory.old) (Form.Declass x a)) × (at + 6 ≤ length tape.old) }
-    ensures acts { Acts (meaning (order_of memory.old)) (tables_of memory.old) n label (Form.Declass x a) (memory_of cells memory.old) (memory_of cells memory.new) tape.old tape.new at result }
+    ensures acts { Acts (O.meaning (order_of memory.old)) (tables_of memory.old) n label (Form.Declass x a) (memory_of B.cells memory.old) (memory_of B.cells memory.new) tape.old tape.new at result }
     ensures program { memory.new.program ≡ memory.old.program }
 {
     let value = memory.number(a);
@@ -189,7 +189,7 @@ fn oram<O: LabelOrder, B: Bank>(
     at: usize,
 ) -> usize
     requires { (Runs (tables_of memory.old) (Form.Oram x a)) × (at + 6 ≤ length tape.old) }
-    ensures acts { Acts (meaning (order_of memory.old)) (tables_of memory.old) n label (Form.Oram x a) (memory_of cells memory.old) (memory_of cells memory.new) tape.old tape.new at result }
+    ensures acts { Acts (O.meaning (order_of memory.old)) (tables_of memory.old) n label (Form.Oram x a) (memory_of B.cells memory.old) (memory_of B.cells memory.new) tape.old tape.new at result }
     ensures program { memory.new.program ≡ memory.old.program }
 {
     memory.copy(x, a);
@@ -210,7 +210,7 @@ fn guard<O: LabelOrder, B: Bank>(
     at: usize,
 ) -> usize
     requires { (Runs (tables_of memory.now) (Form.While a 0)) × (at + 6 ≤ length tape.old) }
-    ensures { Acts (meaning (order_of memory.now)) (tables_of memory.now) n label (Form.While a 0) (memory_of cells memory.now) (memory_of cells memory.now) tape.old tape.new at result }
+    ensures { Acts (O.meaning (order_of memory.now)) (tables_of memory.now) n label (Form.While a 0) (memory_of B.cells memory.now) (memory_of B.cells memory.now) tape.old tape.new at result }
 {
     let value = memory.number(a);
     let at = note(tape, at, instruction_entry(label, n));
@@ -228,7 +228,7 @@ pub(crate) fn act<O: LabelOrder, B: Bank>(
     at: usize,
 ) -> usize
     requires { (Runs (tables_of memory.old) form) × (at + 6 ≤ length tape.old) }
-    ensures acts { Acts (meaning (order_of memory.old)) (tables_of memory.old) n label form (memory_of cells memory.old) (memory_of cells memory.new) tape.old tape.new at result }
+    ensures acts { Acts (O.meaning (order_of memory.old)) (tables_of memory.old) n label form (memory_of B.cells memory.old) (memory_of B.cells memory.new) tape.old tape.new at result }
     ensures program { memory.new.program ≡ memory.old.program }
 {
     match form {

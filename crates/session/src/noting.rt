@@ -98,7 +98,7 @@ pub(crate) fn end_entry(label: u8) -> Entry
 
 // The label of a read or fetch of v in a record with this label: in secret records the variable's own.
 fn carried<O: LabelOrder, B: Bank>(memory: &Memory<O, B>, label: u8, v: u8) -> u8
-    ensures { result ≡ carried (meaning (order_of memory.now)) (tables_of memory.now) label v }
+    ensures { result ≡ carried (O.meaning (order_of memory.now)) (tables_of memory.now) label v }
 {
     let program = memory.program();
     if label == program.order().secret() {
@@ -114,7 +114,7 @@ pub(crate) fn read_entry<O: LabelOrder, B: Bank>(
     variable: u8,
     value: u32,
 ) -> Entry
-    ensures { result ≡ read (carried (meaning (order_of memory.now)) (tables_of memory.now) label variable) variable value }
+    ensures { result ≡ read (carried (O.meaning (order_of memory.now)) (tables_of memory.now) label variable) variable value }
 {
     Entry {
         kind: Kind::Read as u8,
@@ -133,7 +133,7 @@ pub(crate) fn fetch_entry<O: LabelOrder, B: Bank>(
     index: u32,
     value: u32,
 ) -> Entry
-    ensures { result ≡ fetch (carried (meaning (order_of memory.now)) (tables_of memory.now) label variable) variable index value }
+    ensures { result ≡ fetch (carried (O.meaning (order_of memory.now)) (tables_of memory.now) label variable) variable index value }
 {
     Entry {
         kind: Kind::Fetch as u8,

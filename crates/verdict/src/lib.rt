@@ -38,7 +38,7 @@ pub fn read_and_accept<O: LabelOrder>(
     order: &O,
     program: &mut Program<O>,
 ) -> Result<Sizes, Refusal>
-    ensures answers { result ≡ checked (meaning order.now) bytes.now }
+    ensures answers { result ≡ checked (O.meaning order.now) bytes.now }
     ensures filled { contents program.new ≡ (if is_ok result then holding order.now (sheet_program bytes.now) else contents program.old) }
 {
     let mut sheet = ReadSheet::smallest();
@@ -52,8 +52,8 @@ pub fn read_and_accept<O: LabelOrder>(
 
 // The verdict on the bytes of a sheet under the order. A yes carries the secrecy of two sessions.
 pub fn check<O: LabelOrder>(bytes: &[u8], order: O) -> Result<Sizes, Refusal>
-    ensures answers { result ≡ checked (meaning order) bytes.now }
-    ensures secret { is_ok result ≡ true → Accepted (meaning order) (sheet_program bytes.now) × Secrecy (meaning order) (sheet_program bytes.now) }
+    ensures answers { result ≡ checked (O.meaning order) bytes.now }
+    ensures secret { is_ok result ≡ true → Accepted (O.meaning order) (sheet_program bytes.now) × Secrecy (O.meaning order) (sheet_program bytes.now) }
 {
     read_and_accept(bytes, &order, &mut Program::new(order))
 }

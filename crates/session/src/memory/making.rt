@@ -25,7 +25,7 @@ fn first_cells<O: LabelOrder>(program: &Program<O>) -> [u32; 65]
 
 // Sets the first n cells to 0, in rising order.
 fn clear<B: Bank>(bank: &mut B, n: usize)
-    ensures { cells bank.new ≡ zeroed n (cells bank.old) }
+    ensures { B.cells bank.new ≡ zeroed n (B.cells bank.old) }
 {
     for i in 0..n {
         bank.put(i, 0);
@@ -35,7 +35,7 @@ fn clear<B: Bank>(bank: &mut B, n: usize)
 impl<O: LabelOrder, B: Bank> Memory<O, B> {
     // Every number and every cell that the arrays use is 0.
     pub(crate) fn new(program: Program<O>, bank: B) -> Memory<O, B>
-        ensures memory { memory_of cells result ≡ (opened (contents program).tables (cells bank)).config.memory }
+        ensures memory { memory_of B.cells result ≡ (opened (contents program).tables (B.cells bank)).config.memory }
         ensures program { result.program ≡ program }
     {
         let starts = first_cells(&program);

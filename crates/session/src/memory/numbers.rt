@@ -20,7 +20,7 @@ impl<O: LabelOrder, B: Bank> Memory<O, B> {
     // The number that is variable v.
     pub(crate) fn number(&self, v: u8) -> u32
         requires { (IsVariable (tables_of self.now) v) × (IsNumber (tables_of self.now) v) }
-        ensures { result ≡ held (tables_of self.now) (memory_of cells self.now) v 0 }
+        ensures { result ≡ held (tables_of self.now) (memory_of B.cells self.now) v 0 }
     {
         self.numbers[v as usize]
     }
@@ -28,7 +28,7 @@ impl<O: LabelOrder, B: Bank> Memory<O, B> {
     // Sets the number that is variable v.
     pub(crate) fn set_number(&mut self, v: u8, value: u32)
         requires { (IsVariable (tables_of self.old) v) × (IsNumber (tables_of self.old) v) }
-        ensures memory { memory_of cells self.new ≡ put (tables_of self.old) (memory_of cells self.old) v 0 value }
+        ensures memory { memory_of B.cells self.new ≡ put (tables_of self.old) (memory_of B.cells self.old) v 0 value }
         ensures program { self.new.program ≡ self.old.program }
     {
         self.numbers[v as usize] = value;

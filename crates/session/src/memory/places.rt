@@ -16,7 +16,7 @@ use sheet::Kind;
 fn copy_cells<B: Bank>(bank: &mut B, source: usize, target: usize, n: usize)
     requires fits { (source + n < 2 ^ 64) × (target + n < 2 ^ 64) }
     requires apart { target < source + n → target ≤ source }
-    ensures { cells bank.new ≡ copied_cells source target n (cells bank.old) }
+    ensures { B.cells bank.new ≡ copied_cells source target n (B.cells bank.old) }
 {
     for i in 0..n {
         let value = bank.get(source + i);
@@ -27,7 +27,7 @@ fn copy_cells<B: Bank>(bank: &mut B, source: usize, target: usize, n: usize)
 impl<O: LabelOrder, B: Bank> Memory<O, B> {
     // Has the bank fewer cells than the arrays need?
     pub(crate) fn too_small(&self) -> bool
-        ensures { result ≡ nat_lt (length (memory_of cells self.now).cells) (cells_needed (tables_of self.now)) }
+        ensures { result ≡ nat_lt (length (memory_of B.cells self.now).cells) (cells_needed (tables_of self.now)) }
     {
         self.bank.size() < self.starts[self.program.variable_count()] as usize
     }
@@ -47,7 +47,7 @@ impl<O: LabelOrder, B: Bank> Memory<O, B> {
     fn cell(&self, v: u8, i: u32) -> usize
         requires { IsVariable (tables_of self.now) v }
         ensures inside { i < length_of (tables_of self.now).variables v → result ≡ base (tables_of self.now) v + i }
-        ensures outside { length_of (tables_of self.now).variables v ≤ i → length (cells self.now.bank) ≤ result }
+        ensures outside { length_of (tables_of self.now).variables v ≤ i → length (B.cells self.now.bank) ≤ result }
     {
         if i < self.program.variable(v).kind.cells() as u32 {
             self.starts[v as usize] as usize + i as usize
@@ -59,8 +59,8 @@ impl<O: LabelOrder, B: Bank> Memory<O, B> {
     // Array a at index i, or 0 outside it: one request to the bank.
     pub(crate) fn fetch(&mut self, a: u8, i: u32) -> u32
         requires { (IsVariable (tables_of self.old) a) × (IsArray (tables_of self.old) a) }
-        ensures value { result ≡ fetched (tables_of self.old) (memory_of cells self.old) a i }
-        ensures memory { memory_of cells self.new ≡ memory_of cells self.old }
+        ensures value { result ≡ fetched (tables_of self.old) (memory_of B.cells self.old) a i }
+        ensures memory { memory_of B.cells self.new ≡ memory_of B.cells self.old }
         ensures program { self.new.program ≡ self.old.program }
     {
         let cell = self.cell(a, i);
@@ -70,7 +70,7 @@ impl<O: LabelOrder, B: Bank> Memory<O, B> {
     // Sets array x at index i; outside it nothing changes: one request to the bank.
     pub(crate) fn store(&mut self, x: u8, i: u32, value: u32)
         requires { (IsVariable (tables_of self.old) x) × (IsArray (tables_of self.old) x) }
-        ensures memory { memory_of cells self.new ≡ stored (tables_of self.old) (memory_of cells self.old) x i value }
+        ensures memory { memory_of B.cells self.new ≡ stored (tables_of self.old) (memory_of B.cells self.old) x i value }
         ensures program { self.new.program ≡ self.old.program }
     {
         let cell = self.cell(x, i);
@@ -81,7 +81,7 @@ impl<O: LabelOrder, B: Bank> Memory<O, B> {
         requires variables { (IsVariable (tables_of self.old) x) × (IsVariable (tables_of self.old) a) }
         requires arrays { (IsArray (tables_of self.old) x) × (IsArray (tables_of self.old) a) }
         requires lengths { length_of (tables_of self.old).variables x ≡ length_of (tables_of self.old).variables a }
-        ensures memory { memory_of cells self.new ≡ copied (tables_of self.old) (memory_of cells self.old) x a (length_of (tables_of self.old).variables x) }
+        ensures memory { memory_of B.cells self.new ≡ copied (tables_of self.old) (memory_of B.cells self.old) x a (length_of (tables_of self.old).variables x) }
         ensures program { self.new.program ≡ self.old.program }
     {
         let source = self.starts[a as usize] as usize;
@@ -93,8 +93,8 @@ impl<O: LabelOrder, B: Bank> Memory<O, B> {
     // What variable v holds at index i.
     pub(crate) fn look(&mut self, v: u8, i: u32) -> u32
         requires { has_place (tables_of self.old) v i ≡ true }
-        ensures value { result ≡ held (tables_of self.old) (memory_of cells self.old) v i }
-        ensures memory { memory_of cells self.new ≡ memory_of cells self.old }
+        ensures value { result ≡ held (tables_of self.old) (memory_of B.cells self.old) v i }
+        ensures memory { memory_of B.cells self.new ≡ memory_of B.cells self.old }
         ensures program { self.new.program ≡ self.old.program }
     {
         match self.program.variable(v).kind {
@@ -106,7 +106,7 @@ impl<O: LabelOrder, B: Bank> Memory<O, B> {
     // Sets variable v at index i.
     pub(crate) fn enter(&mut self, v: u8, i: u32, value: u32)
         requires { has_place (tables_of self.old) v i ≡ true }
-        ensures memory { memory_of cells self.new ≡ put (tables_of self.old) (memory_of cells self.old) v i value }
+        ensures memory { memory_of B.cells self.new ≡ put (tables_of self.old) (memory_of B.cells self.old) v i value }
         ensures program { self.new.program ≡ self.old.program }
     {
         match self.program.variable(v).kind {

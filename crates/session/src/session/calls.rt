@@ -23,7 +23,7 @@ use tape::Entry;
 impl<O: LabelOrder, B: Bank> Session<O, B> {
     // A session of the program over the bank: every number and every cell that the arrays use is 0, and record 1 is next.
     pub fn open(program: Program<O>, bank: B) -> Session<O, B>
-        ensures state { state_of cells result ≡ opened (contents program).tables (cells bank) }
+        ensures state { state_of B.cells result ≡ opened (contents program).tables (B.cells bank) }
         ensures program { result.memory.program ≡ program }
     {
         Session {
@@ -35,7 +35,7 @@ impl<O: LabelOrder, B: Bank> Session<O, B> {
 
     // May the party see the place?
     fn check_access(&self, party: u8, variable: u8, index: u32) -> Result<(), SessionFault>
-        ensures { result ≡ answer (access_fault (meaning (order_of self.now.memory)) (tables_of self.now.memory) party variable index) tt }
+        ensures { result ≡ answer (access_fault (O.meaning (order_of self.now.memory)) (tables_of self.now.memory) party variable index) tt }
     {
         let order = self.memory.program().order();
         if party >= order.parties() {
@@ -58,8 +58,8 @@ impl<O: LabelOrder, B: Bank> Session<O, B> {
         index: u32,
         value: u32,
     ) -> Result<(), SessionFault>
-        ensures answers { result ≡ answer (refusal_of meaning cells (enter party variable index value) self.old) tt }
-        ensures state { state_of cells self.new ≡ (done meaning cells (enter party variable index value) self.old).state }
+        ensures answers { result ≡ answer (refusal_of O.meaning B.cells (enter party variable index value) self.old) tt }
+        ensures state { state_of B.cells self.new ≡ (done O.meaning B.cells (enter party variable index value) self.old).state }
         ensures program { self.new.memory.program ≡ self.old.memory.program }
     {
         if self.memory.too_small() {
@@ -75,8 +75,8 @@ impl<O: LabelOrder, B: Bank> Session<O, B> {
 
     // Starts the session: nothing is entered from then on, and it may run.
     pub fn start(&mut self) -> Result<(), SessionFault>
-        ensures answers { result ≡ answer (refusal_of meaning cells start self.old) tt }
-        ensures state { state_of cells self.new ≡ (done meaning cells start self.old).state }
+        ensures answers { result ≡ answer (refusal_of O.meaning B.cells start self.old) tt }
+        ensures state { state_of B.cells self.new ≡ (done O.meaning B.cells start self.old).state }
         ensures program { self.new.memory.program ≡ self.old.memory.program }
     {
         if self.memory.too_small() {
@@ -91,8 +91,8 @@ impl<O: LabelOrder, B: Bank> Session<O, B> {
 
     // What a variable holds, for a party to which its label is open.
     pub fn look(&mut self, party: u8, variable: u8, index: u32) -> Result<u32, SessionFault>
-        ensures answers { result ≡ looked (meaning (order_of self.old.memory)) (tables_of self.old.memory) (state_of cells self.old) party variable index }
-        ensures state { state_of cells self.new ≡ (done meaning cells (look party variable index) self.old).state }
+        ensures answers { result ≡ looked (O.meaning (order_of self.old.memory)) (tables_of self.old.memory) (state_of B.cells self.old) party variable index }
+        ensures state { state_of B.cells self.new ≡ (done O.meaning B.cells (look party variable index) self.old).state }
         ensures program { self.new.memory.program ≡ self.old.memory.program }
     {
         if self.memory.too_small() {
@@ -104,9 +104,9 @@ impl<O: LabelOrder, B: Bank> Session<O, B> {
 
     // Runs, unless the session was not started, has ended, or the tape is too short for a step.
     fn try_run(&mut self, steps: u64, tape: &mut [Entry]) -> Result<RunReport, SessionFault>
-        ensures answers { result ≡ answer (refusal_of meaning cells (run steps (length tape.old)) self.old) (reported (ran_of meaning cells steps (length tape.old) self.old)) }
-        ensures state { state_of cells self.new ≡ (done meaning cells (run steps (length tape.old)) self.old).state }
-        ensures tape { tape.new ≡ overwritten (done meaning cells (run steps (length tape.old)) self.old).tape tape.old }
+        ensures answers { result ≡ answer (refusal_of O.meaning B.cells (run steps (length tape.old)) self.old) (reported (ran_of O.meaning B.cells steps (length tape.old) self.old)) }
+        ensures state { state_of B.cells self.new ≡ (done O.meaning B.cells (run steps (length tape.old)) self.old).state }
+        ensures tape { tape.new ≡ overwritten (done O.meaning B.cells (run steps (length tape.old)) self.old).tape tape.old }
         ensures program { self.new.memory.program ≡ self.old.memory.program }
     {
         if !self.started {
@@ -123,11 +123,11 @@ impl<O: LabelOrder, B: Bank> Session<O, B> {
     // Runs for at most so many steps, and writes what they write from the beginning of the tape on; the rest of the tape
     // stays. Before each step: the program has ended, else the steps are taken, else the tape is full.
     pub fn run(&mut self, steps: u64, tape: &mut [Entry]) -> Result<RunReport, SessionFault>
-        ensures answers { result ≡ answer (refusal_of meaning cells (run steps (length tape.old)) self.old) (reported (ran_of meaning cells steps (length tape.old) self.old)) }
-        ensures state { state_of cells self.new ≡ (done meaning cells (run steps (length tape.old)) self.old).state }
-        ensures tape { tape.new ≡ overwritten (done meaning cells (run steps (length tape.old)) self.old).tape tape.old }
+        ensures answers { result ≡ answer (refusal_of O.meaning B.cells (run steps (length tape.old)) self.old) (reported (ran_of O.meaning B.cells steps (length tape.old) self.old)) }
+        ensures state { state_of B.cells self.new ≡ (done O.meaning B.cells (run steps (length tape.old)) self.old).state }
+        ensures tape { tape.new ≡ overwritten (done O.meaning B.cells (run steps (length tape.old)) self.old).tape tape.old }
         ensures program { self.new.memory.program ≡ self.old.memory.program }
-        ensures pieces { InPieces (meaning (order_of self.old.memory)) (tables_of self.old.memory) (config_of cells self.old) steps (length tape.old) }
+        ensures pieces { InPieces (O.meaning (order_of self.old.memory)) (tables_of self.old.memory) (config_of B.cells self.old) steps (length tape.old) }
     {
         self.try_run(steps, tape)
     }

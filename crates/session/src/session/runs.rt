@@ -20,16 +20,16 @@ pub(crate) const MOST_ENTRIES: usize = 6;
 impl<O: LabelOrder, B: Bank> Session<O, B> {
     // Is the stack empty?
     pub(crate) fn ended(&self) -> bool
-        ensures { result ≡ ended (config_of cells self.now) }
+        ensures { result ≡ ended (config_of B.cells self.now) }
     {
         self.stack.height() == 0
     }
 
     // Steps until the run has ended, as many steps were taken as are asked for, or the tape is full.
     pub(crate) fn run_steps(&mut self, limit: u64, tape: &mut [Entry]) -> RunReport
-        ensures report { result ≡ reported (steps (meaning (order_of self.old.memory)) (tables_of self.old.memory) limit (length tape.old) (config_of cells self.old)) }
-        ensures config { config_of cells self.new ≡ (steps (meaning (order_of self.old.memory)) (tables_of self.old.memory) limit (length tape.old) (config_of cells self.old)).config }
-        ensures tape { tape.new ≡ overwritten (steps (meaning (order_of self.old.memory)) (tables_of self.old.memory) limit (length tape.old) (config_of cells self.old)).tape tape.old }
+        ensures report { result ≡ reported (steps (O.meaning (order_of self.old.memory)) (tables_of self.old.memory) limit (length tape.old) (config_of B.cells self.old)) }
+        ensures config { config_of B.cells self.new ≡ (steps (O.meaning (order_of self.old.memory)) (tables_of self.old.memory) limit (length tape.old) (config_of B.cells self.old)).config }
+        ensures tape { tape.new ≡ overwritten (steps (O.meaning (order_of self.old.memory)) (tables_of self.old.memory) limit (length tape.old) (config_of B.cells self.old)).tape tape.old }
         ensures started { self.new.started ≡ self.old.started }
         ensures program { self.new.memory.program ≡ self.old.memory.program }
     {

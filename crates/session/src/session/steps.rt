@@ -20,7 +20,7 @@ impl<O: LabelOrder, B: Bank> Session<O, B> {
     // What takes the place of record n on the stack, and what is put above that, 0 for nothing.
     fn moved(&self, n: u16, next: u16, form: Form) -> (u16, u16)
         requires { Runs (tables_of self.now.memory) form }
-        ensures { result ≡ moved (tables_of self.now.memory) n next form (memory_of cells self.now.memory) }
+        ensures { result ≡ moved (tables_of self.now.memory) n next form (memory_of B.cells self.now.memory) }
     {
         match form {
             Form::If { a, then, other } => {
@@ -43,9 +43,9 @@ impl<O: LabelOrder, B: Bank> Session<O, B> {
     // Takes the top record, writes its entries from `at` on, and answers the next place.
     pub(crate) fn step(&mut self, tape: &mut [Entry], at: usize) -> usize
         requires { (0 < length (pile self.old.stack)) × (at + 6 ≤ length tape.old) }
-        ensures config { config_of cells self.new ≡ step (tables_of self.old.memory) (config_of cells self.old) }
-        ensures tape { tape.new ≡ write_at tape.old at (written (meaning (order_of self.old.memory)) (tables_of self.old.memory) (config_of cells self.old)) }
-        ensures at { result ≡ at + length (written (meaning (order_of self.old.memory)) (tables_of self.old.memory) (config_of cells self.old)) }
+        ensures config { config_of B.cells self.new ≡ step (tables_of self.old.memory) (config_of B.cells self.old) }
+        ensures tape { tape.new ≡ write_at tape.old at (written (O.meaning (order_of self.old.memory)) (tables_of self.old.memory) (config_of B.cells self.old)) }
+        ensures at { result ≡ at + length (written (O.meaning (order_of self.old.memory)) (tables_of self.old.memory) (config_of B.cells self.old)) }
         ensures started { self.new.started ≡ self.old.started }
         ensures program { self.new.memory.program ≡ self.old.memory.program }
     {

@@ -17,7 +17,7 @@ returns-in_err-accept g c =
     let clear = (accepted _ _ _ h.answers).0 in
     let same = h.after ∙ sym (read_accepted c.smallest-sheet.result.bytes.now bs clear) in
     let no = ap (λ l. accept_refusal L (sheet_program l)) (sym same) ∙ refused _ _ _ c.in_err-accept.ensures.answers in
-    let left = leaves _ _ _ (record { variables = variable_count_of bs; records = record_count_of bs }) c.from-residual-in_err-accept.ensures.1 refl in
+    let left = leaves _ _ _ (record { variables = variable_count_of bs; records = record_count_of bs }) c.from_residual-in_err-accept.ensures.1 refl in
     record {
       answers = left ∙ sym (by_program L bs _ clear no);
       filled = c.in_err-accept.ensures.filled

@@ -11,21 +11,21 @@ returns-in_err-check_variables g c =
     let L = g.O.LabelOrder.meaning c.args.order.now in
     let p = program c.args.variables.now c.args.records.now in
     let h = early L p _ (by_variables L p _ (refused _ _ _ c.in_err-check_variables.ensures)) in
-    record { answers = leaves _ _ _ tt c.from-residual.ensures.1 h; placed = λ n. absurd (some_none _ _ h n) }
+    record { answers = leaves _ _ _ tt c.from_residual.ensures.1 h; placed = λ n. absurd (some_none _ _ h n) }
 
 pub returns-in_err-check_records : goal.returns-in_err-check_records
 returns-in_err-check_records g c =
     let L = g.O.LabelOrder.meaning c.args.order.now in
     let p = program c.args.variables.now c.args.records.now in
     let h = early L p _ (by_records L p _ (accepted _ _ _ c.in_ok-check_variables.ensures).0 (refused _ _ _ c.in_err-check_records.ensures)) in
-    record { answers = leaves _ _ _ tt c.from-residual-in_err-check_records.ensures.1 h; placed = λ n. absurd (some_none _ _ h n) }
+    record { answers = leaves _ _ _ tt c.from_residual-in_err-check_records.ensures.1 h; placed = λ n. absurd (some_none _ _ h n) }
 
 pub returns-in_err-check_linked_once : goal.returns-in_err-check_linked_once
 returns-in_err-check_linked_once g c =
     let L = g.O.LabelOrder.meaning c.args.order.now in
     let p = program c.args.variables.now c.args.records.now in
     let h = early L p _ (by_once L p _ (accepted _ _ _ c.in_ok-check_variables.ensures).0 (accepted _ _ _ c.in_ok-check_records.ensures).0 (refused _ _ _ c.in_err-check_linked_once.ensures)) in
-    record { answers = leaves _ _ _ tt c.from-residual-in_err-check_linked_once.ensures.1 h; placed = λ n. absurd (some_none _ _ h n) }
+    record { answers = leaves _ _ _ tt c.from_residual-in_err-check_linked_once.ensures.1 h; placed = λ n. absurd (some_none _ _ h n) }
 
 pub nest-requires : goal.nest-requires
 nest-requires g c =

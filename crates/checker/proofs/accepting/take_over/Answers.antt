@@ -45,7 +45,7 @@ returns-in_err-check g c =
     let sv = copied (sheet_variables bs) _ _ (c.variables-n.result - 0) (variable_count_of bs) (variables_long bs) n c.copy_variables.ensures in
     let sr = copied (sheet_records bs) _ _ (c.records-m.result - 0) (record_count_of bs) (records_long bs) m c.copy_records.ensures in
     let h = (λ i. accept_refusal L (program (sym sv i) (sym sr i))) ∙ refused _ _ _ c.in_err-check.ensures in
-    let a = leaves _ _ _ tt c.from-residual.ensures.1 h in
+    let a = leaves _ _ _ tt c.from_residual.ensures.1 h in
     record { answers = a; filled = sym (ap (λ r. cond (is_ok r) (holding c.args.order.now (sheet_program bs)) (contents c.args.program.now)) (a ∙ ap (λ o. answer o tt) h)) }
 
 pub returns : goal.returns

@@ -17,7 +17,7 @@ returns-in_err-check_record g c =
     let vs = c.args.variables.now in
     let rs = c.args.records.now in
     let j = c.loop-j.j in
-    leaves _ _ _ tt c.from-residual.ensures.1
+    leaves _ _ _ tt c.from_residual.ensures.1
     (first_stop _ _ j _ c.loop-j-test.true c.loop-j.invariant (ap (record_refusal L vs (length rs) (j + 1)) (sym (entry rs j)) ∙ refused _ _ _ c.in_err-check_record.ensures))
 
 pub loop-j-preserved : goal.loop-j-preserved

@@ -14,7 +14,7 @@ loop-byte-init c =
 
 pub returns-in_err-digit : goal.returns-in_err-digit
 returns-in_err-digit c =
-    c.from-residual.ensures
+    c.from_residual.ensures
     ∙ sym (c.loop-byte.invariant ∙ step c.args.most c.loop-byte.n c.as_bytes-text.result.now c.loop-byte.byte-index None c.loop-byte-test.true c.in_err-digit.ensures)
 
 pub returns-in_err-checked_mul : goal.returns-in_err-checked_mul
@@ -25,7 +25,7 @@ returns-in_err-checked_mul c =
     let text = c.as_bytes-text.result.now in
     let i = c.loop-byte.byte-index in
     let more : most < 10 * n + d = omega (arith, c.in_err-checked_mul.ensures) in
-    c.from-residual-in_err-checked_mul.ensures
+    c.from_residual-in_err-checked_mul.ensures
     ∙ sym (c.loop-byte.invariant ∙ step most n text i (Some d) c.loop-byte-test.true c.in_ok-digit.ensures ∙ too_large most (10 * n + d) (drop (i + 1) text) more)
 
 pub returns-in_err-n : goal.returns-in_err-n
@@ -36,7 +36,7 @@ returns-in_err-n c =
     let text = c.as_bytes-text.result.now in
     let i = c.loop-byte.byte-index in
     let more : most < 10 * n + d = omega (arith, c.in_err-n.ensures, c.in_ok-checked_mul.ensures) in
-    c.from-residual-in_err-n.ensures
+    c.from_residual-in_err-n.ensures
     ∙ sym (c.loop-byte.invariant ∙ step most n text i (Some d) c.loop-byte-test.true c.in_ok-digit.ensures ∙ too_large most (10 * n + d) (drop (i + 1) text) more)
 
 pub loop-byte-preserved : goal.loop-byte-preserved

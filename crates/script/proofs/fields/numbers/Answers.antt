@@ -15,7 +15,7 @@ returns-in_err-rest g c =
     let i = c.loop-i.i in
     let done = take i c.loop-i.read in
     let within : i < length limits = omega arith in
-    c.from-residual.ensures
+    c.from_residual.ensures
     ∙ sym (c.loop-i.invariant.1 ∙ ap (λ o. front done (numbers (drop i limits) (fields o))) c.in_err-rest.was ∙ ap (front done) (short limits i within))
 
 pub returns-in_err-read : goal.returns-in_err-read
@@ -24,7 +24,7 @@ returns-in_err-read g c =
     let i = c.loop-i.i in
     let done = take i c.loop-i.read in
     let within : i < length limits = omega arith in
-    c.from-residual-in_err-read.ensures
+    c.from_residual-in_err-read.ensures
     ∙ sym
     (c.loop-i.invariant.1
     ∙ ap (λ o. front done (numbers (drop i limits) (fields o))) c.in_ok-rest.was

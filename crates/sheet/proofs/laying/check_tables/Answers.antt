@@ -25,7 +25,7 @@ pub returns-in_err-total : goal.returns-in_err-total
 returns-in_err-total c =
     let vs = c.args.variables.now in
     let rs = c.args.records.now in
-    leaves _ _ _ tt c.from-residual.ensures.1
+    leaves _ _ _ tt c.from_residual.ensures.1
     (counted vs rs (omega arith) (omega arith) (omega arith) (omega arith)
     ∙ refused_by_variables vs rs (record { label = 0; next = 0; form = Skip }) (omega arith) (omega arith) (omega arith) (omega arith)
     ∙ stops vs rs c.loop-k.k _ _ c.loop-k.total (omega arith) c.variable_bytes.ensures c.loop-k.invariant.0 c.loop-k.invariant.2 _ (refused _ _ _ c.in_err-total.ensures))

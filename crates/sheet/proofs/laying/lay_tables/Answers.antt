@@ -9,7 +9,7 @@ returns-in_err-check_tables c =
     let vs = c.args.variables.now in
     let rs = c.args.records.now in
     let h = layout_tables vs rs (length c.args.out.now) _ (refused _ _ _ c.in_err-check_tables.ensures) in
-    record { answers = leaves _ _ _ _ c.from-residual.ensures.1 h; after = stays_out vs rs c.args.out.now _ h }
+    record { answers = leaves _ _ _ _ c.from_residual.ensures.1 h; after = stays_out vs rs c.args.out.now _ h }
 
 pub returns-then-size-out : goal.returns-then-size-out
 returns-then-size-out c =

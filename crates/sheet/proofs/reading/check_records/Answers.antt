@@ -11,7 +11,7 @@ loop-k-init c = refl
 pub returns-in_err-check_record : goal.returns-in_err-check_record
 unfolding records_refusal
 returns-in_err-check_record c =
-    leaves _ _ _ tt c.from-residual.ensures.1
+    leaves _ _ _ tt c.from_residual.ensures.1
     (first_stop _ _ c.loop-k.k _ c.loop-k-test.true c.loop-k.invariant (refused _ _ _ c.in_err-check_record.ensures))
 
 pub loop-k-preserved : goal.loop-k-preserved

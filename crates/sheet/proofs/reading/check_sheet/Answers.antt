@@ -9,7 +9,7 @@ use Rattle.sheet.proofs.reading.check_sheet.Goals as goal
 pub returns-in_err-variables : goal.returns-in_err-variables
 unfolding sheet_refusal
 returns-in_err-variables c =
-    leaves _ _ _ tt c.from-residual.ensures.1 (let h = refused _ _ _ c.in_err-variables.ensures in grind (arith, h))
+    leaves _ _ _ tt c.from_residual.ensures.1 (let h = refused _ _ _ c.in_err-variables.ensures in grind (arith, h))
 
 pub check_variables-requires : goal.check_variables-requires
 check_variables-requires c =
@@ -21,7 +21,7 @@ check_variables-requires c =
 pub returns-in_err-check_variables : goal.returns-in_err-check_variables
 returns-in_err-check_variables c =
     let h = accepted _ _ _ c.in_ok-variables.ensures in
-    leaves _ _ _ tt c.from-residual-in_err-check_variables.ensures.1
+    leaves _ _ _ tt c.from_residual-in_err-check_variables.ensures.1
     (by_variables _ _ _ _ h.1 h.0 (refused _ _ _ c.in_err-check_variables.ensures))
 
 pub check_records-requires : goal.check_records-requires

@@ -14,7 +14,7 @@ pub returns-in_err-total : goal.returns-in_err-total
 unfolding variables_refusal
 returns-in_err-total c =
     let same = ap (λ b. variable_refusal (variable_place c.loop-k.k) b (variable_part c.args.bytes.now c.loop-k.k)) c.loop-k.invariant.0 in
-    leaves _ _ _ tt c.from-residual.ensures.1
+    leaves _ _ _ tt c.from_residual.ensures.1
     (first_stop _ _ c.loop-k.k _ c.loop-k-test.true c.loop-k.invariant.2 (sym same ∙ refused _ _ _ c.in_err-total.ensures))
 
 pub loop-k-preserved : goal.loop-k-preserved

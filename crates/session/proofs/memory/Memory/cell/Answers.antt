@@ -6,8 +6,8 @@ use Rattle.session.proofs.Reading.{few_variables}
 use Rattle.session.proofs.Laying.{start_at}
 use Rattle.session.proofs.memory.Memory.cell.Goals as goal
 
-pub bounds_self-v : goal.bounds_self-v
-bounds_self-v g c = omega (arith, few_variables c.args.self.now.program, c.requires)
+pub bounds-self-v : goal.bounds-self-v
+bounds-self-v g c = omega (arith, few_variables c.args.self.now.program, c.requires)
 
 pub returns-then-i-cells : goal.returns-then-i-cells
 returns-then-i-cells g c =

@@ -9,11 +9,11 @@ use Rattle.session.proofs.Laying.{start_at}
 use Rattle.session.proofs.Copying.{arrays_apart, copied_is}
 use Rattle.session.proofs.memory.Memory.copy.Goals as goal
 
-pub bounds_self-a : goal.bounds_self-a
-bounds_self-a g c = omega (arith, few_variables c.args.self.now.program, c.requires.variables.1)
+pub bounds-self-a : goal.bounds-self-a
+bounds-self-a g c = omega (arith, few_variables c.args.self.now.program, c.requires.variables.1)
 
-pub bounds_self-x : goal.bounds_self-x
-bounds_self-x g c = omega (arith, few_variables c.args.self.now.program, c.requires.variables.0)
+pub bounds-self-x : goal.bounds-self-x
+bounds-self-x g c = omega (arith, few_variables c.args.self.now.program, c.requires.variables.0)
 
 pub copy_cells-requires : goal.copy_cells-requires
 copy_cells-requires g c =

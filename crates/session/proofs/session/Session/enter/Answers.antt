@@ -35,7 +35,7 @@ returns-in_err-check_access g c =
     let p = tables_of me.memory in
     let s = state_of g.B.Bank.cells me in
     let e = enter_access L p s c.args.party c.args.variable c.args.index c.args.value _ (sym c.if-too_small.ensures) c.if-self.false (refused _ _ _ c.in_err-check_access.ensures) in
-    record { answers = leaves _ _ _ tt c.from-residual.ensures.1 e; state = refused_state L p (enter c.args.party c.args.variable c.args.index c.args.value) s _ e; program = refl }
+    record { answers = leaves _ _ _ tt c.from_residual.ensures.1 e; state = refused_state L p (enter c.args.party c.args.variable c.args.index c.args.value) s _ e; program = refl }
 
 pub enter-requires : goal.enter-requires
 enter-requires g c =

@@ -28,7 +28,7 @@ returns-in_err-check_access g c =
     let p = tables_of me.memory in
     let s = state_of g.B.Bank.cells me in
     let e = look_access L p s c.args.party c.args.variable c.args.index _ (sym c.if-too_small.ensures) (refused _ _ _ c.in_err-check_access.ensures) in
-    record { answers = leaves _ _ _ _ c.from-residual.ensures.1 e; state = look_state L p s c.args.party c.args.variable c.args.index; program = refl }
+    record { answers = leaves _ _ _ _ c.from_residual.ensures.1 e; state = look_state L p s c.args.party c.args.variable c.args.index; program = refl }
 
 pub look-requires : goal.look-requires
 look-requires g c =
