@@ -66,7 +66,7 @@ pub struct Record {
 impl Kind {
     // The cells that a variable of this kind takes in the bank.
     pub fn cells(self) -> u16
-        ensures { result ≡ B.cells self }
+        ensures { result ≡ cells self }
     {
         match self {
             Kind::Number => 0,

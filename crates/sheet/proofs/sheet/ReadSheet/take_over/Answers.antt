@@ -10,7 +10,7 @@ returns-in_err-check_sheet c =
     record { answers = leaves _ _ _ tt c.from_residual.ensures.1 h; after = read_refused c.args.self.now.bytes.now _ _ h }
 
 pub invariant_of-self : goal.invariant_of-self
-invariant_of-self c = (valid_from_none _ (accepted _ _ _ c.in_ok-check_sheet.ensures).0, tt)
+invariant_of-self c = record { valid = valid_from_none _ (accepted _ _ _ c.in_ok-check_sheet.ensures).0 }
 
 pub returns : goal.returns
 returns c =
