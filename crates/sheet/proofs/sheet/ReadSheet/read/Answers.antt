@@ -7,5 +7,5 @@ returns c =
     record {
       answers = c.take_over.ensures.answers;
       after = c.take_over.ensures.after;
-      exact = reads_exactly c.args.bytes.now (λ i. omega (arith, c.well_formed.bytes i)) _ c.take_over.ensures.answers;
+      exact = reads_exactly c.args.bytes.now (λ i. omega (arith, c.type_inv.bytes i)) _ c.take_over.ensures.answers;
     }
