@@ -30,10 +30,10 @@ abbrev pub record_in : List ℕ → ℕ → Record
 record_in bs k = unwrap_or (sheet.record_at bs (k + 1)) skip
 
 unfoldable pub sheet_variables : List ℕ → List Variable
-sheet_variables bs = map (variable_in bs) (range_with_len 0 (sheet.variable_count bs))
+sheet_variables bs = map (variable_in bs) (range_with_len 0 (sheet.variable_count_of bs))
 
 unfoldable pub sheet_records : List ℕ → List Record
-sheet_records bs = map (record_in bs) (range_with_len 0 (sheet.record_count bs))
+sheet_records bs = map (record_in bs) (range_with_len 0 (sheet.record_count_of bs))
 
 abbrev pub sheet_program : List ℕ → Program
 sheet_program bs = program (sheet_variables bs) (sheet_records bs)

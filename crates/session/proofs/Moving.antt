@@ -1,5 +1,6 @@
 -- A step moves the stack as the machine says, and the stack keeps climbing. Assumes nothing.
 use Rattle.std.proofs.Common.{◌≡◌, ℕ, zero, suc, ◌-◌, ◌<◌, ◌≤◌, Bool, true, false, cond, ◌&&◌, eqb, ltb, leb, ◌⊎◌, List, [], ◌∷◌, length, sym, refl, ap, ◌∙◌, inl, inr, ⊎_elim, arith}
+use Rattle.labels.specs.declared.order.LabelOrder as LabelOrder
 use Rattle.std.proofs.lemmas.Bool.{and_parts, and_from, or_cases, or_right, eqb-true, ltb-true, leb-true, lt-ltb, le-leb, cond_both}
 use Rattle.sheet.specs.declared.tables.Form.{Form}
 use Rattle.sheet.specs.declared.tables.Form.TheVariants.{Skip, Copy, Constant, Binary, Fetch, Mux, Store, If, While, Declass, Oram}
@@ -99,7 +100,7 @@ piled_stripped count (zero ∷ s) h = piled_stripped count s h
 piled_stripped count (suc r ∷ s) h = h
 
 -- record n on top of a clean stack that climbs
-module _ {A : Type 0} (q : checked.Program A) (m : Memory) (st : List ℕ) (n : ℕ) (rest : List ℕ) (r : Record) (on : st ≡ n ∷ rest)
+module _ {A : Type 0} {g : LabelOrder.Ghosts A} (q : checked.Program A g) (m : Memory) (st : List ℕ) (n : ℕ) (rest : List ℕ) (r : Record) (on : st ≡ n ∷ rest)
     (is : r ≡ record_at (contents q).tables.records n) (climbs : piled q.record_count st ≡ true) (clean : stripped st ≡ st) where
   abbrev p : Program
   p = (contents q).tables
@@ -167,7 +168,7 @@ pub still_clean : (st s : List ℕ) → st ≡ stripped s → stripped st ≡ st
 still_clean st s e = ap stripped e ∙ stripped_twice s ∙ sym e
 
 -- record 1 alone
-pub first_climbs : {A : Type 0} (q : checked.Program A) (st : List ℕ) → st ≡ 1 ∷ [] → piled q.record_count st ≡ true
+pub first_climbs : {A : Type 0} {g : LabelOrder.Ghosts A} (q : checked.Program A g) (st : List ℕ) → st ≡ 1 ∷ [] → piled q.record_count st ≡ true
 unfolding Rises
 first_climbs q st e = ap (piled q.record_count) e ∙ and_from _ _ (test_rises q.record_count 0 1 (λ h. (omega arith, some_record q))) refl
 

@@ -1,5 +1,6 @@
 -- What an accepted program keeps of each of its records. Assumes nothing.
 use Rattle.std.proofs.Common.{◌≡◌, ℕ, zero, suc, ◌≤◌, true, ltb, List, length, sym, subst, ⊎_elim, arith, length-take}
+use Rattle.labels.specs.declared.order.LabelOrder as LabelOrder
 use Rattle.std.proofs.lemmas.Bool.{and_parts, cases_eq}
 use Rattle.sheet.specs.declared.tables.Form.{Form}
 use Rattle.sheet.specs.declared.tables.Form.TheVariants.{Skip, Copy, Constant, Binary, Fetch, Mux, Store, If, While, Declass, Oram}
@@ -25,7 +26,7 @@ fits_at vs rs (suc j) k e l h =
     (λ ne. fits_at vs rs j k t.0 l (omega (arith, ne)))
     (cases_eq k (suc j))
 
-module _ {A : Type 0} (q : checked.Program A) where
+module _ {A : Type 0} {g : LabelOrder.Ghosts A} (q : checked.Program A g) where
   pub few_records : q.record_count ≤ 512
   few_records = q.fits.1
 

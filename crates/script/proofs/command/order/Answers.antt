@@ -12,4 +12,4 @@ returns-in_default c =
     sym
     (ap (λ o. order_of (fields o)) c.in_ok-rest.was
     ∙ ap order_of c.cut.ensures
-    ∙ no_order c.cut.result.0.now (fields c.cut.result.1) c.in_default.not-two c.in_default.not_set)
+    ∙ no_order c.cut.result.0.now (fields c.cut.result.1) c.in_default.not-two c.in_default.not-set)

@@ -15,5 +15,5 @@ returns-in-entry c =
 
 pub returns-in_default : goal.returns-in_default
 returns-in_default c =
-    let value = sym (ap entry_of c.cut.ensures ∙ no_entry c.cut.result.0.now (fields c.cut.result.1) c.in_default.not_entry) in
+    let value = sym (ap entry_of c.cut.ensures ∙ no_entry c.cut.result.0.now (fields c.cut.result.1) c.in_default.not-entry) in
     record { value = value; back = entry_back c.args.line.now _ value }

@@ -37,4 +37,4 @@ returns-in-pick c = c.pick.ensures ∙ sym (ap (λ name. asks (name ∷ fields c
 pub returns-in_default : goal.returns-in_default
 returns-in_default c =
     let name = c.args.name.now in
-    rw (other name (codes "order") c.in_default.not-order, other name (codes "sheet") c.in_default.not-sheet, other name (codes "bank") c.in_default.not-bank, other name (codes "open") c.in_default.not-open, other name (codes "enter") c.in_default.not-enter, other name (codes "start") c.in_default.not_start, other name (codes "run") c.in_default.not-run, other name (codes "look") c.in_default.not-look, other name (codes "log") c.in_default.not-log, other name (codes "pick") c.in_default.not-pick)
+    rw (other name (codes "order") c.in_default.not-order, other name (codes "sheet") c.in_default.not-sheet, other name (codes "bank") c.in_default.not-bank, other name (codes "open") c.in_default.not-open, other name (codes "enter") c.in_default.not-enter, other name (codes "start") c.in_default.not-start, other name (codes "run") c.in_default.not-run, other name (codes "look") c.in_default.not-look, other name (codes "log") c.in_default.not-log, other name (codes "pick") c.in_default.not-pick)

@@ -6,4 +6,4 @@ use Rattle.checker.proofs.program.Program.new.Goals as goal
 
 pub invariant_of-result : goal.invariant_of-result
 unfolding tables_fit record_at
-invariant_of-result g c = ((omega arith, omega arith, omega arith), (refl, tt))
+invariant_of-result g c = record { fits = (omega arith, omega arith, omega arith); sound = refl }
