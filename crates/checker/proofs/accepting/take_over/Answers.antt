@@ -31,10 +31,11 @@ invariant_of-program g c =
     let tv = copied (sheet_variables bs) _ _ c.variables-n.result (variable_count_of bs) (variables_long bs) c.variables-n.ensures.count c.copy_variables.ensures in
     let tr = copied (sheet_records bs) _ _ c.records-m.result (record_count_of bs) (records_long bs) c.records-m.ensures.count c.copy_records.ensures in
     let ok = (λ i. accept_refusal L (program (sym sv i) (sym sr i))) ∙ (accepted _ _ _ c.in_ok-check.ensures).0 in
-    let fit = accepted_fits L (sheet_program bs) ok in (
-      (omega (arith, c.variables-n.ensures.count, h.few_variables), omega (arith, c.records-m.ensures.count, h.few_records), omega (arith, c.records-m.ensures.count, h.some_record)),
-      ((λ i. tables_fit (tv i) (tr i) ((c.records-m.ensures.count ∙ sym (records_long bs)) i)) ∙ fit, tt),
-    )
+    let fit = accepted_fits L (sheet_program bs) ok in
+    record {
+      fits = (omega (arith, c.variables-n.ensures.count, h.few_variables), omega (arith, c.records-m.ensures.count, h.few_records), omega (arith, c.records-m.ensures.count, h.some_record));
+      sound = (λ i. tables_fit (tv i) (tr i) ((c.records-m.ensures.count ∙ sym (records_long bs)) i)) ∙ fit;
+    }
 
 pub returns-in_err-check : goal.returns-in_err-check
 returns-in_err-check g c =
