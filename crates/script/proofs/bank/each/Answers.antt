@@ -13,7 +13,7 @@ returns-in-None c =
 
 pub loop-rest-preserved : goal.loop-rest-preserved
 loop-rest-preserved c =
-    each_more (vec_items c.loop-rest.all) (vec_items c.push.new.self) c.in-Some-field.n c.cut.result.0.now (fields c.cut.result.1) c.loop-rest.invariant (ap fields c.in-Some.is ∙ c.cut.ensures) c.in-Some-field.ensures c.push.ensures.items
+    each_more (vec_items c.loop-rest.all) (vec_items c.push.new.self) c.in-Some-field.n c.cut.result.0.now (fields c.cut.result.1) c.loop-rest.invariant (ap fields c.in-Some.is ∙ c.cut.ensures) c.in-Some-field.ensures c.in_ok-push-in-Some-field.ensures.items
 
 pub returns : goal.returns
 returns c =

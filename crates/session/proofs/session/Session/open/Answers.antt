@@ -5,7 +5,7 @@ use Rattle.session.proofs.Moving.{first_climbs, first_clean}
 use Rattle.session.proofs.session.Session.open.Goals as goal
 
 pub invariant_of-result : goal.invariant_of-result
-invariant_of-result g c = (first_climbs c.new.result.program (pile c.new-2.result) c.new-2.ensures, (first_clean (pile c.new-2.result) c.new-2.ensures, tt))
+invariant_of-result g c = record { climbs = first_climbs c.new.result.program (pile c.new-2.result) c.new-2.ensures; clean = first_clean (pile c.new-2.result) c.new-2.ensures }
 
 pub returns : goal.returns
 unfolding opened

@@ -35,12 +35,13 @@ invariant_of-self g c =
     let me = c.args.self.now in
     let m = memory_of g.B.Bank.cells me.memory in
     let is = c.record-taken.ensures ∙ ap (λ q. record_at (contents q).tables.records c.top-n.result) c.program.ensures in
-    let go = c.advance.ensures ∙ ap (λ (t : ℕ × ℕ). stripped (t.1 ∷ (t.0 ∷ below_top (pile me.stack)))) c.moved_place.ensures in (
-      ap (λ q. piled q.record_count (pile c.advance.new.self)) c.act-next.ensures.program
+    let go = c.advance.ensures ∙ ap (λ (t : ℕ × ℕ). stripped (t.1 ∷ (t.0 ∷ below_top (pile me.stack)))) c.moved_place.ensures in
+    record {
+      climbs = ap (λ q. piled q.record_count (pile c.advance.new.self)) c.act-next.ensures.program
           ∙ ap (piled me.memory.program.record_count) go
-          ∙ still_climbs me.memory.program m (pile me.stack) c.top-n.result (below_top (pile me.stack)) c.record-taken.result c.top-n.ensures is me.climbs me.clean,
-      (still_clean (pile c.advance.new.self) _ go, tt),
-    )
+          ∙ still_climbs me.memory.program m (pile me.stack) c.top-n.result (below_top (pile me.stack)) c.record-taken.result c.top-n.ensures is me.climbs me.clean;
+      clean = still_clean (pile c.advance.new.self) _ go;
+    }
 
 pub returns-then-height-gt0 : goal.returns-then-height-gt0
 returns-then-height-gt0 g c =
