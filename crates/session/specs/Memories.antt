@@ -1,20 +1,19 @@
 -- What a memory holds. Assumes nothing.
 use Rattle.std.specs.Prelude.{ℕ, List, length, take}
 use Rattle.labels.specs.declared.order.LabelOrder as LabelOrder
-use Rattle.banks.specs.declared.Bank as Bank
 use Rattle.model.specs.Program as model
 use Rattle.model.specs.Machine as machine
 use Rattle.checker.specs.Contents.{contents}
 use Rattle.session.specs.declared.memory.Memory.{Memory}
 
 -- its program's tables
-abbrev pub tables_of : {O B : Type 0} {o : LabelOrder.Ghosts O} {b : Bank.Ghosts B} → Memory O B o b → model.Program
+abbrev pub tables_of : {O B : Type 0} {o : LabelOrder.Ghosts O} → Memory O B o → model.Program
 tables_of m = (contents m.program).tables
 
 -- its program's order
-abbrev pub order_of : {O B : Type 0} {o : LabelOrder.Ghosts O} {b : Bank.Ghosts B} → Memory O B o b → O
+abbrev pub order_of : {O B : Type 0} {o : LabelOrder.Ghosts O} → Memory O B o → O
 order_of m = (contents m.program).order
 
 -- the numbers of the variables and the row of the bank
-abbrev pub memory_of : {O B : Type 0} {o : LabelOrder.Ghosts O} {b : Bank.Ghosts B} → (B → List ℕ) → Memory O B o b → machine.Memory
+abbrev pub memory_of : {O B : Type 0} {o : LabelOrder.Ghosts O} → (B → List ℕ) → Memory O B o → machine.Memory
 memory_of row m = record { numbers = take (length (tables_of m).variables) m.numbers; cells = row m.bank }
