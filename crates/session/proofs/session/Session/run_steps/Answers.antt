@@ -17,15 +17,15 @@ pub loop-self-preserved : goal.loop-self-preserved
 loop-self-preserved g c =
     let inv = c.loop-self.invariant in
     let now = config_of g.B.Bank.cells c.loop-self.self in
-    let wrote = c.step_at.ensures.tape ∙ ap (λ q. write_at c.loop-self.tape c.loop-self.at (written (g.O.LabelOrder.meaning (contents q).order) (contents q).tables now)) inv.0 in
-    let next = c.step_at.ensures.at ∙ ap (λ q. c.loop-self.at + length (written (g.O.LabelOrder.meaning (contents q).order) (contents q).tables now)) inv.0 in
-    let after = c.step_at.ensures.config ∙ ap (λ q. step (contents q).tables now) inv.0 in
+    let wrote = c.step-at.ensures.tape ∙ ap (λ q. write_at c.loop-self.tape c.loop-self.at (written (g.O.LabelOrder.meaning (contents q).order) (contents q).tables now)) inv.0 in
+    let next = c.step-at.ensures.at ∙ ap (λ q. c.loop-self.at + length (written (g.O.LabelOrder.meaning (contents q).order) (contents q).tables now)) inv.0 in
+    let after = c.step-at.ensures.config ∙ ap (λ q. step (contents q).tables now) inv.0 in
     let more = run_more (g.O.LabelOrder.meaning (order_of c.args.self.now.memory)) (tables_of c.args.self.now.memory) c.args.limit c.loop-self.taken
-    c.loop-self.at c.step_at.result c.loop-self.tape c.args.tape.now c.step_at.new.tape
-    now (config_of g.B.Bank.cells c.step_at.new.self) _
+    c.loop-self.at c.step-at.result c.loop-self.tape c.args.tape.now c.step-at.new.tape
+    now (config_of g.B.Bank.cells c.step-at.new.self) _
     c.if-taken-limit.true c.if-tape-at-ge-MOST_ENTRIES.true (sym c.loop-self-test.ensures)
-    wrote next after c.step_at.auto.tape inv.4 inv.5 in
-    (c.step_at.ensures.program ∙ inv.0, c.step_at.ensures.started ∙ inv.1, omega arith, more.0, more.1, more.2)
+    wrote next after c.step-at.auto.tape inv.4 inv.5 in
+    (c.step-at.ensures.program ∙ inv.0, c.step-at.ensures.started ∙ inv.1, omega arith, more.0, more.1, more.2)
 
 pub returns-then-ended : goal.returns-then-ended
 returns-then-ended g c =
