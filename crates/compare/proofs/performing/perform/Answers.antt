@@ -42,14 +42,14 @@ returns-in-Look g c =
       program = c.look.ensures.program;
     }
 
-pub returns-in_ok-extend_from_slice : goal.returns-in_ok-extend_from_slice
-returns-in_ok-extend_from_slice g c =
+pub returns-in_ok-extend_from_slice-in-Run : goal.returns-in_ok-extend_from_slice-in-Run
+returns-in_ok-extend_from_slice-in-Run g c =
     let me = c.args.session.now in
     let L = g.O.LabelOrder.meaning (order_of me.memory) in
     let p = tables_of me.memory in
     let s = state_of g.B.Bank.cells me in
-    let ran = c.in_ok-entries.ensures in
-    let joined = c.in_ok-extend_from_slice.ensures.items in
+    let ran = c.in_ok-entries-in-Run.ensures in
+    let joined = c.in_ok-extend_from_slice-in-Run.ensures.items in
     record {
       performed = λ _. subst (λ (k : Call). Performed L p (call_of k) s (state_of g.B.Bank.cells c.run_entries.new.session) (vec_items c.args.tape.now) (vec_items c.extend_from_slice.new.self)) (sym c.in-Run.is)
           (record { state = ran.state refl; tape = joined ∙ ap (λ t. vec_items c.args.tape.now ++ t) (c.deref.ensures.value ∙ ran.entries) });

@@ -10,8 +10,8 @@ use Rattle.compare.proofs.performing.run_entries.Goals as goal
 pub returns : goal.returns
 returns g c =
     let me = c.args.session.now in
-    let long = c.deref-mut.ensures.len ∙ c.in_ok-resize.ensures.len in
-    let whole = take_at c.run-answer.new.tape _ _ (c.run-answer.auto.tape ∙ c.deref-mut.ensures.len) in
+    let long = c.deref_mut.ensures.len ∙ c.in_ok-resize.ensures.len in
+    let whole = take_at c.run-answer.new.tape _ _ (c.run-answer.auto.tape ∙ c.deref_mut.ensures.len) in
     record {
       state = λ _. c.run-answer.ensures.state ∙ ap (λ (k : ℕ). (done g.O.LabelOrder.meaning g.B.Bank.cells (run c.args.steps k) me).state) long;
       entries = c.keep.ensures
