@@ -1,7 +1,6 @@
 use Rattle.std.proofs.Common.{ℕ, List, length, take, refl, ap, ◌∙◌, arith}
 use Rattle.sheet.specs.declared.tables.Variable.{Variable}
 use Rattle.sheet.specs.Tables.{cells}
-use Rattle.model.specs.Machine.{Memory}
 use Rattle.session.specs.Starts.{copied_cells}
 use Rattle.session.specs.Memories.{tables_of, memory_of}
 use Rattle.session.proofs.Reading.{few_variables}

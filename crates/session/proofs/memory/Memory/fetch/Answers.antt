@@ -1,5 +1,4 @@
 use Rattle.std.proofs.Common.{length, take, refl, ap, ◌∙◌}
-use Rattle.model.specs.Machine.{Memory}
 use Rattle.session.specs.Memories.{tables_of, memory_of}
 use Rattle.session.proofs.Placing.{fetched_cell}
 use Rattle.session.proofs.memory.Memory.fetch.Goals as goal

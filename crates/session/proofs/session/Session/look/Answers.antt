@@ -3,7 +3,7 @@ use Rattle.refusal.specs.Answers.{answer}
 use Rattle.refusal.proofs.Answering.{accepted, refused, leaves}
 use Rattle.model.specs.declared.fault.SessionFault.{SessionFault}
 use Rattle.model.specs.Machine.{Memory, held}
-use Rattle.model.specs.Session.{look, looked}
+use Rattle.model.specs.Session.{looked}
 use Rattle.session.specs.Memories.{tables_of, order_of}
 use Rattle.session.specs.Stacks.{pile}
 use Rattle.session.specs.States.{state_of}
