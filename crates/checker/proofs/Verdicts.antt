@@ -15,7 +15,7 @@ use Rattle.rules.specs.declared.faults.RuleFault.{RuleFault}
 use Rattle.rules.specs.Faults.{shape_refusal_of, rule_refusal_of, rule_number}
 use Rattle.checker.specs.Checks.{shape_refusal, tables_fit}
 use Rattle.checker.specs.Breaches.{rules_refusal}
-use Rattle.checker.specs.Accepting.{accept_refusal, Verdict}
+use Rattle.checker.specs.Accepting.{accept_refusal, Verdict, IsMisshapen}
 use Rattle.checker.proofs.OnePlace.{one_place}
 use Rattle.checker.proofs.Joint.{by_shape, by_rules}
 use Rattle.checker.proofs.Exact.{shape_fits, shape_sound, shape_complete, rules_sound, rules_breach, rules_complete}
@@ -73,6 +73,8 @@ module _ (L : Labels) (W : Lawful L) (p : Program) (r : Result (Unit {0}) Refusa
         sound = λ e. let a = accepts (accepted _ _ _ (sym e ∙ is)).0 in (a, secrecy L W p a);
         complete = λ A. is ∙ ap (λ o. answer o tt) (by_rules L p None (shape_complete L p A.shape) (rules_complete L p A.rules));
         places = λ e k h. one_place p.records (accepts (accepted _ _ _ (sym e ∙ is)).0).shape.sound.linked k h.0 h.1;
-        misshapen = λ number place e. unsound number place (refused _ _ _ (sym e ∙ is));
         breach = λ number place e. names number place (refused _ _ _ (sym e ∙ is));
       }
+
+  pub misshapen : IsMisshapen L p r
+  misshapen number place e = unsound number place (refused _ _ _ (sym e ∙ is))

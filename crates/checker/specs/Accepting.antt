@@ -43,12 +43,15 @@ unfoldable pub accept_refusal : Labels → Program → Option Refusal
 accept_refusal L p = option_or (option_map shape_refusal_of (shape_refusal L p)) (option_map rule_refusal_of (rules_refusal L p (length p.records)))
 
 -- What an answer tells: accepted exactly when shape and rules are kept, then with secrecy; the places from which depth
--- and surroundings are taken are those that the records stand at; a refusal by the shape is one of a program that is not
--- well-shaped; and a refusal by a rule names a record of a well-shaped program that breaks the rule.
+-- and surroundings are taken are those that the records stand at; and a refusal by a rule names a record of a
+-- well-shaped program that breaks the rule.
 pub record Verdict (L : Labels) (p : Program) (r : Result (Unit {0}) Refusal) : Type 0 where
   pub sound : r ≡ Ok tt → Accepted L p × Secrecy L p
   pub complete : Accepted L p → r ≡ Ok tt
   pub places : r ≡ Ok tt → (k : ℕ) → IsRecord p k → StandsOnce p.records k
-  pub misshapen : (number place : ℕ) → r ≡ Err (refused_at Layer.Shape number place) → WellShaped L p → ⊥
   pub breach : (number place : ℕ) → r ≡ Err (refused_at Layer.Rule number place) →
       (k : Rule) × (rule_number k ≡ number) × WellShaped L p × IsRecord p place × (Keeps L p place k → ⊥)
+
+-- A refusal by the shape is one of a program that is not well-shaped.
+abbrev pub IsMisshapen : Labels → Program → Result (Unit {0}) Refusal → Type 0
+IsMisshapen L p r = (number place : ℕ) → r ≡ Err (refused_at Layer.Shape number place) → WellShaped L p → ⊥

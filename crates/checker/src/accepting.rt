@@ -5,7 +5,7 @@ ghost use Rattle.refusal.specs.Answers.{answer};
 ghost use Rattle.sheet.specs.Reading.{variable_count_of, record_count_of};
 ghost use Rattle.model.specs.Nesting.{place};
 ghost use Rattle.checker.specs.Checks.{shape_refusal};
-ghost use Rattle.checker.specs.Accepting.{program, sheet_variables, sheet_records, sheet_program, accept_refusal, Verdict};
+ghost use Rattle.checker.specs.Accepting.{program, sheet_variables, sheet_records, sheet_program, accept_refusal, Verdict, IsMisshapen};
 ghost use Rattle.checker.specs.Contents.{contents, holding, smallest};
 
 use crate::program::Program;
@@ -130,6 +130,7 @@ pub fn accept<O: LabelOrder>(
     ensures answers { result ≡ answer (accept_refusal (O.meaning order.now) (sheet_program sheet.now.bytes.now)) tt }
     ensures filled { contents program.new ≡ (if is_ok result then holding order.now (sheet_program sheet.now.bytes.now) else contents program.old) }
     ensures verdict { Verdict (O.meaning order.now) (sheet_program sheet.now.bytes.now) result }
+    ensures misshapen { IsMisshapen (O.meaning order.now) (sheet_program sheet.now.bytes.now) result }
 {
     take_over(sheet, order, program)
 }
