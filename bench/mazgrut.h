@@ -1,5 +1,5 @@
 /* The engine as a static library, under the two-party order: Alice is party 0, Bob party 1; labels P 0, A 1, B 2, O 3.
- * `rt staticlib engine` writes target/staticlib/libengine.a; link lib/librattle_c.a of the kit beside it.
+ * `rt lib` in crates/engine writes crates/engine/out/libengine.a; link c/liblibc_c.a of the kit beside it.
  * A slice is a pointer and the number of its elements. Every pointer must be aligned and valid for its length (not null,
  * also where the length is 0), and slices that are written must overlap no other. */
 #ifndef MAZGRUT_H

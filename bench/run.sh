@@ -3,9 +3,9 @@
 #   bash bench/run.sh [CASES]
 set -eu
 cd "$(dirname "$0")/.."
-rt staticlib engine
-kit=$(dirname "$(dirname "$(rt doc)")")
+(cd crates/engine && rt lib)
+kit=$(dirname "$(rt doc)")
 mkdir -p target/bench
 rustc --edition 2024 -C opt-level=3 -C panic=abort bench/src/main.rs -o target/bench/bench \
-    -L target/staticlib -l static=engine -C link-arg="$kit/lib/librattle_c.a"
+    -L crates/engine/out -l static=engine -C link-arg="$kit/c/liblibc_c.a"
 target/bench/bench "$@"

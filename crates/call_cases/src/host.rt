@@ -71,7 +71,7 @@ impl Host {
         tell(self.heap, &order)
     }
 
-    // `party_set PARTIES`; a refusal leaves the order before.
+    // `party-set PARTIES`; a refusal leaves the order before.
     fn party_set(&mut self, numbers: &[u32]) -> Result<Answer, Fault> {
         let [parties] = *numbers else {
             return Err(Fault::Unreadable);

@@ -2,7 +2,7 @@
 use Rattle.std.specs.Prelude.{ℕ, zero, suc, Bool, true, false, Some, None, Ok, Err, Option, Result}
 use Rattle.std.specs.Option.{option_or}
 
--- no fault where the test passes; several in a row are joined by orOther
+-- no fault where the test passes; several in a row are joined by option_or
 abbrev pub expect : {F : Type 0} → Bool → F → Option F
 expect true fault = None
 expect false fault = Some fault

@@ -32,7 +32,7 @@ read_digits n (c ∷ word) h =
 -- a printed number is read
 some_digits : (word : List ℕ) → 0 < length word → grammar.decimal word ≡ read_on 0 word
 some_digits [] h = absurd (omega arith)
-some_digits (c ∷ word) h = refl
+some_digits (c ∷ rest) h = refl
 
 printed : (n : ℕ) → n < 2 ^ 64 → grammar.decimal (decimal n) ≡ Some n
 printed n h =
