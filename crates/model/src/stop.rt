@@ -2,9 +2,9 @@
 #[derive(Clone, Copy)]
 pub enum Stop {
     // The program has ended.
-    Ended,
+    Ended = 1,
     // As many steps were taken as were asked for.
-    Spent,
+    Spent = 2,
     // The tape has room for fewer than 6 entries more.
-    Full,
+    Full = 3,
 }

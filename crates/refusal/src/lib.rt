@@ -10,17 +10,17 @@ use std::fmt;
 #[derive(Clone, Copy, PartialEq, Eq)]
 pub enum Layer {
     // The bytes of a program sheet.
-    Sheet,
+    Sheet = 1,
     // The shape of a program: labels, variables, links.
-    Shape,
+    Shape = 2,
     // The type rules.
-    Rule,
+    Rule = 3,
     // A session's calls.
-    Session,
+    Session = 4,
     // The making of a party's log.
-    Log,
+    Log = 5,
     // The making of a label order.
-    Order,
+    Order = 6,
 }
 
 #[derive(Clone, Copy, PartialEq, Eq)]

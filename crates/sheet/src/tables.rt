@@ -3,13 +3,14 @@ ghost use Rattle.std.specs.Prelude.{◌≡◌, ◌-◌, ◌<◌, Some, None};
 ghost use Rattle.sheet.specs.Tables.{cells, form_code, operator_code, operator};
 
 // A number, or an array of so many cells of the bank.
-#[derive(Clone, Copy)]
+#[derive(Clone, Copy, Default)]
 pub enum Kind {
+    #[default]
     Number,
     Array(u16),
 }
 
-#[derive(Clone, Copy)]
+#[derive(Clone, Copy, Default)]
 pub struct Variable {
     pub label: u8,
     pub kind: Kind,
@@ -29,9 +30,10 @@ pub enum Op {
 }
 
 // What a record does. Operands are numbers of variables, links numbers of records; link 0 ends a chain.
-#[derive(Clone, Copy)]
+#[derive(Clone, Copy, Default)]
 pub enum Form {
     // Nothing.
+    #[default]
     Skip,
     // x := a
     Copy { x: u8, a: u8 },
@@ -56,7 +58,7 @@ pub enum Form {
 }
 
 // Records count from 1 and are chained by `next`.
-#[derive(Clone, Copy)]
+#[derive(Clone, Copy, Default)]
 pub struct Record {
     pub label: u8,
     pub next: u16,
