@@ -3,6 +3,7 @@ pub mod Program
 pub mod Rules
 pub mod Machine
 pub mod Log
+pub mod Stops
 pub mod Session
 pub mod Secrecy
 pub mod Cases
