@@ -1,6 +1,6 @@
 // The checks of a byte string that is to be a sheet, in the order of their numbers.
-ghost use Rattle.std.specs.Prelude.{◌≡◌, ◌+◌, ◌*◌, ◌^◌, ◌<◌, ◌≤◌, length};
-ghost use Rattle.sheet.specs.Format.{word16};
+ghost use Rattle.std.specs.Prelude.{◌≡◌, ℕ, ◌+◌, ◌*◌, ◌^◌, ◌<◌, ◌≤◌, ◌||◌, ◌==◌, true, false, length, slice_index, MatchOption};
+ghost use Rattle.sheet.specs.Format.{word16, used};
 ghost use Rattle.refusal.specs.Answers.{answer};
 ghost use Rattle.sheet.specs.Reading.{header_refusal, variable_refusal, variables_refusal, record_refusal, records_refusal, sheet_refusal, variable_place, record_place, variable_count_of, record_count_of};
 
@@ -69,6 +69,14 @@ fn check_variables(bytes: &[u8], count: usize) -> Result<(), SheetFault>
     Ok(())
 }
 
+// The first byte that is not 0 though the form leaves it unused.
+fn stray(form: u8, part: &[u8]) -> Option<usize>
+    ensures { MatchOption result ((k : ℕ) → k < length part.now → (used form k || slice_index part.now k == 0) ≡ true) (λ i. (i < length part.now) × ((used form i || slice_index part.now i == 0) ≡ false) × ((k : ℕ) → k < i → (used form k || slice_index part.now k == 0) ≡ true)) }
+{
+    let mut bytes = part.iter().enumerate();
+    bytes.position(|(i, byte)| *byte != 0 && !used(form, i))
+}
+
 // One record, whose bytes begin at p.
 fn check_record(part: &[u8], p: usize) -> Result<(), SheetFault>
     requires fits { (length part.now ≡ 12) × (p < 2 ^ 32) }
@@ -78,12 +86,10 @@ fn check_record(part: &[u8], p: usize) -> Result<(), SheetFault>
     if form > 10 {
         return Err(SheetFault::Form(p));
     }
-    for i in 0..12 {
-        if !used(form, i) && part[i] != 0 {
-            return Err(SheetFault::Unused(p + i));
-        }
+    if let Some(i) = stray(form, part) {
+        return Err(SheetFault::Unused(p + i));
     }
-    if form == 3 && Op::from_code(part[5]).is_none() {
+    if form == 3 && Op::try_from(part[5]).is_err() {
         return Err(SheetFault::Operator(p + 5));
     }
     Ok(())
