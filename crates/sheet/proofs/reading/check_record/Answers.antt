@@ -14,18 +14,18 @@ pub returns-in-Some : goal.returns-in-Some
 unfolding record_refusal
 returns-in-Some c =
     let h = c.in-Some.ensures in
-    let clear = first_none (byte_refusal c.args.p c.args.part.now) c.in-Some.i (λ k l. passes _ _ (h.2 k l)) in
-    let s = first_stop (byte_refusal c.args.p c.args.part.now) (Unused (c.args.p + c.in-Some.i)) c.in-Some.i 12 (omega (arith, h.0)) clear (ap (λ b. expect b (Unused (c.args.p + c.in-Some.i))) h.1) in
+    let clear = first_none (byte_refusal c.args.p c.args.row.now) c.in-Some.i (λ k l. passes _ _ (h.2 k l)) in
+    let s = first_stop (byte_refusal c.args.p c.args.row.now) (Unused (c.args.p + c.in-Some.i)) c.in-Some.i 12 (omega (arith, h.0)) clear (ap (λ b. expect b (Unused (c.args.p + c.in-Some.i))) h.1) in
     grind (arith, nat_tests, s)
 
 pub returns-then-is_err : goal.returns-then-is_err
 unfolding record_refusal
 returns-then-is_err c =
-    let s = first_none (byte_refusal c.args.p c.args.part.now) 12 (λ k l. passes _ _ (c.in_default.ensures k (omega arith))) in
+    let s = first_none (byte_refusal c.args.p c.args.row.now) 12 (λ k l. passes _ _ (c.in_default.ensures k (omega arith))) in
     grind (arith, nat_tests, s)
 
 pub returns : goal.returns
 unfolding record_refusal
 returns c =
-    let s = first_none (byte_refusal c.args.p c.args.part.now) 12 (λ k l. passes _ _ (c.in_default.ensures k (omega arith))) in
+    let s = first_none (byte_refusal c.args.p c.args.row.now) 12 (λ k l. passes _ _ (c.in_default.ensures k (omega arith))) in
     grind (arith, nat_tests, s)
