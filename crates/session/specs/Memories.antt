@@ -3,12 +3,17 @@ use Rattle.std.specs.Prelude.{ℕ, List, length, take}
 use Rattle.labels.specs.declared.order.LabelOrder as LabelOrder
 use Rattle.model.specs.Program as model
 use Rattle.model.specs.Machine as machine
+use Rattle.checker.specs.declared.program.Program as checked
 use Rattle.checker.specs.Contents.{contents}
 use Rattle.session.specs.declared.memory.Memory.{Memory}
 
 -- its program's tables
 abbrev pub tables_of : {O B : Type 0} {o : LabelOrder.Ghosts O} → Memory O B o → model.Program
 tables_of m = (contents m.program).tables
+
+-- how many records a program has
+abbrev pub records_in : {A : Type 0} {g : LabelOrder.Ghosts A} → checked.Program A g → ℕ
+records_in q = q.record_count
 
 -- its program's order
 abbrev pub order_of : {O B : Type 0} {o : LabelOrder.Ghosts O} → Memory O B o → O

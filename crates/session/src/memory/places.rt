@@ -12,7 +12,8 @@ use banks::Bank;
 use labels::LabelOrder;
 use sheet::Kind;
 
-// Copies n cells to another place, which the source does not run into.
+// Copies n cells to another place, which the source does not run into. A bank is reached by number alone, so the loop
+// counts.
 fn copy_cells<B: Bank>(bank: &mut B, source: usize, target: usize, n: usize)
     requires fits { (source + n < 2 ^ 64) × (target + n < 2 ^ 64) }
     requires apart { target < source + n → target ≤ source }
@@ -76,6 +77,7 @@ impl<O: LabelOrder, B: Bank> Memory<O, B> {
         let cell = self.cell(x, i);
         self.bank.put(cell, value);
     }
+
     // Copies array a, of the same length, to array x: one put for each cell, in rising order.
     pub(crate) fn copy(&mut self, x: u8, a: u8)
         requires variables { (IsVariable (tables_of self.old) x) × (IsVariable (tables_of self.old) a) }

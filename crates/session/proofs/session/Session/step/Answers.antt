@@ -4,7 +4,7 @@ use Rattle.model.specs.Nesting.{record_at}
 use Rattle.model.specs.Machine.{stripped, entries, end_if}
 use Rattle.checker.specs.Contents.{contents}
 use Rattle.session.specs.Acting.{write_at}
-use Rattle.session.specs.Memories.{tables_of, order_of, memory_of}
+use Rattle.session.specs.Memories.{tables_of, order_of, memory_of, records_in}
 use Rattle.session.specs.Stacks.{pile, below_top}
 use Rattle.session.specs.Piles.{piled}
 use Rattle.session.proofs.Moving.{top_runs, room, still_climbs, still_clean}
@@ -36,8 +36,8 @@ invariant_of-self g c =
     let is = c.record-taken.ensures ∙ ap (λ q. record_at (contents q).tables.records c.top-n.result) c.program.ensures in
     let go = c.advance.ensures ∙ ap (λ (t : ℕ × ℕ). stripped (t.1 ∷ (t.0 ∷ below_top (pile me.stack)))) c.moved-place.ensures in
     record {
-      climbs = ap (λ q. piled q.record_count (pile c.advance.new.self)) c.take.ensures.left.program
-          ∙ ap (piled me.memory.program.record_count) go
+      climbs = ap (λ q. piled (records_in q) (pile c.advance.new.self)) c.take.ensures.left.program
+          ∙ ap (piled (records_in me.memory.program)) go
           ∙ still_climbs me.memory.program (memory_of g.B.Bank.cells me.memory) (pile me.stack) _ _ _ c.top-n.ensures is me.climbs me.clean;
       clean = still_clean (pile c.advance.new.self) _ go;
     }
