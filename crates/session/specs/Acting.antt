@@ -1,5 +1,5 @@
 -- What the act of a record leaves in memory and on the tape. Assumes nothing.
-use Rattle.std.specs.Prelude.{◌≡◌, ℕ, ◌+◌, List, [], ◌∷◌, length, slice_set}
+use Rattle.std.specs.Prelude.{◌≡◌, ℕ, ◌+◌, ◌≤◌, List, [], ◌∷◌, length, slice_set}
 use Rattle.sheet.specs.declared.tables.Form.{Form}
 use Rattle.tape.specs.declared.entry.Entry.{Entry}
 use Rattle.labels.specs.Labels.{Labels}
@@ -14,6 +14,10 @@ use Rattle.session.specs.declared.turn.Turn.{Turn}
 abbrev pub write_at : List Entry → ℕ → List Entry → List Entry
 write_at tape at [] = tape
 write_at tape at (e ∷ es) = write_at (slice_set tape at e) (at + 1) es
+
+-- so many entries more have room on a turn's tape
+abbrev pub HasRoom : {O B : Type 0} {o : LabelOrder.Ghosts O} → ℕ → Turn O B o → Type 0
+HasRoom n t = t.at + n ≤ length t.tape.now
 
 -- A turn has written these entries, and its memory holds this now. The rest stays: the record, the program, and whose
 -- memory and tape they are.
@@ -38,3 +42,8 @@ pub record Runs (p : Program) (f : Form) : Type 0 where
   pub present : Present p f
   pub kinds : RightKinds p f
   pub lengths : SameLength p f
+
+-- a record of this form may act: it runs, and there is room for six entries
+pub record MayAct {O B : Type 0} {o : LabelOrder.Ghosts O} (f : Form) (t : Turn O B o) : Type 0 where
+  pub room : HasRoom 6 t
+  pub runs : Runs (tables_of t.memory.now) f

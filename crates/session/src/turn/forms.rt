@@ -1,8 +1,8 @@
 // The forms: what each does to the memory, and what it writes on the tape.
-ghost use Rattle.std.specs.Prelude.{◌+◌, ◌≤◌, ◌++◌, length};
+ghost use Rattle.std.specs.Prelude.{◌++◌};
 ghost use Rattle.model.specs.Machine.{act, entries, end_if};
 ghost use Rattle.session.specs.Memories.{tables_of, order_of, memory_of};
-ghost use Rattle.session.specs.Acting.{Acts, Leaves, Runs};
+ghost use Rattle.session.specs.Acting.{MayAct, Acts, Leaves};
 
 use crate::turn::Turn;
 use crate::values::{apply, mux};
@@ -13,9 +13,8 @@ use sheet::{Form, Op};
 impl<'a, O: LabelOrder, B: Bank> Turn<'a, O, B> {
     // x := a.
     fn copy(&mut self, x: u8, a: u8)
-        requires room { self.old.at + 6 ≤ length self.old.tape.now }
-        requires runs { Runs (tables_of self.old.memory.now) (Form.Copy x a) }
-        ensures acts { Acts O.meaning B.cells (Form.Copy x a) self.old self.new }
+        requires { MayAct (Form.Copy x a) self.old }
+        ensures { Acts O.meaning B.cells (Form.Copy x a) self.old self.new }
     {
         self.instruction();
         let value = self.read(a);
@@ -24,9 +23,8 @@ impl<'a, O: LabelOrder, B: Bank> Turn<'a, O, B> {
 
     // x := value.
     fn constant(&mut self, x: u8, value: u32)
-        requires room { self.old.at + 6 ≤ length self.old.tape.now }
-        requires runs { Runs (tables_of self.old.memory.now) (Form.Constant x value) }
-        ensures acts { Acts O.meaning B.cells (Form.Constant x value) self.old self.new }
+        requires { MayAct (Form.Constant x value) self.old }
+        ensures { Acts O.meaning B.cells (Form.Constant x value) self.old self.new }
     {
         self.instruction();
         self.write(x, value);
@@ -34,9 +32,8 @@ impl<'a, O: LabelOrder, B: Bank> Turn<'a, O, B> {
 
     // x := a op b.
     fn binary(&mut self, x: u8, a: u8, b: u8, op: Op)
-        requires room { self.old.at + 6 ≤ length self.old.tape.now }
-        requires runs { Runs (tables_of self.old.memory.now) (Form.Binary x a b op) }
-        ensures acts { Acts O.meaning B.cells (Form.Binary x a b op) self.old self.new }
+        requires { MayAct (Form.Binary x a b op) self.old }
+        ensures { Acts O.meaning B.cells (Form.Binary x a b op) self.old self.new }
     {
         self.instruction();
         let left = self.read(a);
@@ -46,9 +43,8 @@ impl<'a, O: LabelOrder, B: Bank> Turn<'a, O, B> {
 
     // x := a[b].
     fn element(&mut self, x: u8, a: u8, b: u8)
-        requires room { self.old.at + 6 ≤ length self.old.tape.now }
-        requires runs { Runs (tables_of self.old.memory.now) (Form.Fetch x a b) }
-        ensures acts { Acts O.meaning B.cells (Form.Fetch x a b) self.old self.new }
+        requires { MayAct (Form.Fetch x a b) self.old }
+        ensures { Acts O.meaning B.cells (Form.Fetch x a b) self.old self.new }
     {
         self.instruction();
         let index = self.read(b);
@@ -58,9 +54,8 @@ impl<'a, O: LabelOrder, B: Bank> Turn<'a, O, B> {
 
     // x := mux(a, b, c).
     fn choose(&mut self, x: u8, a: u8, b: u8, c: u8)
-        requires room { self.old.at + 6 ≤ length self.old.tape.now }
-        requires runs { Runs (tables_of self.old.memory.now) (Form.Mux x a b c) }
-        ensures acts { Acts O.meaning B.cells (Form.Mux x a b c) self.old self.new }
+        requires { MayAct (Form.Mux x a b c) self.old }
+        ensures { Acts O.meaning B.cells (Form.Mux x a b c) self.old self.new }
     {
         self.instruction();
         let test = self.read(a);
@@ -71,9 +66,8 @@ impl<'a, O: LabelOrder, B: Bank> Turn<'a, O, B> {
 
     // x[a] := b.
     fn set_element(&mut self, x: u8, a: u8, b: u8)
-        requires room { self.old.at + 6 ≤ length self.old.tape.now }
-        requires runs { Runs (tables_of self.old.memory.now) (Form.Store x a b) }
-        ensures acts { Acts O.meaning B.cells (Form.Store x a b) self.old self.new }
+        requires { MayAct (Form.Store x a b) self.old }
+        ensures { Acts O.meaning B.cells (Form.Store x a b) self.old self.new }
     {
         self.instruction();
         let index = self.read(a);
@@ -83,9 +77,8 @@ impl<'a, O: LabelOrder, B: Bank> Turn<'a, O, B> {
 
     // x := declass(a).
     fn declass(&mut self, x: u8, a: u8)
-        requires room { self.old.at + 6 ≤ length self.old.tape.now }
-        requires runs { Runs (tables_of self.old.memory.now) (Form.Declass x a) }
-        ensures acts { Acts O.meaning B.cells (Form.Declass x a) self.old self.new }
+        requires { MayAct (Form.Declass x a) self.old }
+        ensures { Acts O.meaning B.cells (Form.Declass x a) self.old self.new }
     {
         self.instruction();
         let value = self.read(a);
@@ -94,9 +87,8 @@ impl<'a, O: LabelOrder, B: Bank> Turn<'a, O, B> {
 
     // x := oram(a).
     fn oram(&mut self, x: u8, a: u8)
-        requires room { self.old.at + 6 ≤ length self.old.tape.now }
-        requires runs { Runs (tables_of self.old.memory.now) (Form.Oram x a) }
-        ensures acts { Acts O.meaning B.cells (Form.Oram x a) self.old self.new }
+        requires { MayAct (Form.Oram x a) self.old }
+        ensures { Acts O.meaning B.cells (Form.Oram x a) self.old self.new }
     {
         self.memory.copy(x, a);
         self.instruction();
@@ -108,9 +100,8 @@ impl<'a, O: LabelOrder, B: Bank> Turn<'a, O, B> {
 
     // The guard of an if or a while: it is read, and nothing is changed.
     fn guard(&mut self, a: u8)
-        requires room { self.old.at + 6 ≤ length self.old.tape.now }
-        requires runs { Runs (tables_of self.old.memory.now) (Form.While a 0) }
-        ensures acts { Acts O.meaning B.cells (Form.While a 0) self.old self.new }
+        requires { MayAct (Form.While a 0) self.old }
+        ensures { Acts O.meaning B.cells (Form.While a 0) self.old self.new }
     {
         self.instruction();
         self.read(a);
@@ -118,9 +109,8 @@ impl<'a, O: LabelOrder, B: Bank> Turn<'a, O, B> {
 
     // Does what a record of this form does, besides its place on the stack.
     pub(crate) fn act(&mut self, form: Form)
-        requires room { self.old.at + 6 ≤ length self.old.tape.now }
-        requires runs { Runs (tables_of self.old.memory.now) form }
-        ensures acts { Acts O.meaning B.cells form self.old self.new }
+        requires { MayAct form self.old }
+        ensures { Acts O.meaning B.cells form self.old self.new }
     {
         match form {
             Form::Skip => {}
@@ -138,9 +128,8 @@ impl<'a, O: LabelOrder, B: Bank> Turn<'a, O, B> {
 
     // Takes the record, and tells of the end where no record is left.
     pub(crate) fn take(&mut self, form: Form, last: bool)
-        requires room { self.old.at + 6 ≤ length self.old.tape.now }
-        requires runs { Runs (tables_of self.old.memory.now) form }
-        ensures left { Leaves B.cells (entries (O.meaning (order_of self.old.memory.now)) (tables_of self.old.memory.now) self.old.number self.old.label form (memory_of B.cells self.old.memory.now) ++ end_if (O.meaning (order_of self.old.memory.now)) last) (act (tables_of self.old.memory.now) form (memory_of B.cells self.old.memory.now)) self.old self.new }
+        requires { MayAct form self.old }
+        ensures { Leaves B.cells (entries (O.meaning (order_of self.old.memory.now)) (tables_of self.old.memory.now) self.old.number self.old.label form (memory_of B.cells self.old.memory.now) ++ end_if (O.meaning (order_of self.old.memory.now)) last) (act (tables_of self.old.memory.now) form (memory_of B.cells self.old.memory.now)) self.old self.new }
     {
         self.act(form);
         if last {

@@ -1,10 +1,9 @@
 // What a record reads and changes, each with its entry on the tape.
-ghost use Rattle.std.specs.Prelude.{◌≡◌, ◌<◌, [], ◌∷◌, length};
-ghost use Rattle.model.specs.Program.{IsVariable, label_of};
-ghost use Rattle.model.specs.Rules.{IsNumber, IsArray};
+ghost use Rattle.std.specs.Prelude.{◌≡◌, [], ◌∷◌};
+ghost use Rattle.model.specs.Program.{label_of};
 ghost use Rattle.model.specs.Machine.{instruction, read, fetch, write, store, name, release, end, carried, held, put, fetched, stored};
-ghost use Rattle.session.specs.Memories.{tables_of, order_of, memory_of};
-ghost use Rattle.session.specs.Acting.{Leaves};
+ghost use Rattle.session.specs.Memories.{tables_of, order_of, memory_of, HasNumber, HasArray};
+ghost use Rattle.session.specs.Acting.{HasRoom, Leaves};
 
 use crate::turn::Turn;
 use banks::Bank;
@@ -14,7 +13,7 @@ use tape::{BLANK, Entry, Kind};
 impl<'a, O: LabelOrder, B: Bank> Turn<'a, O, B> {
     // Writes one entry.
     pub(super) fn note(&mut self, e: Entry)
-        requires { self.old.at < length self.old.tape.now }
+        requires { HasRoom 1 self.old }
         ensures left { Leaves B.cells (e ∷ []) (memory_of B.cells self.old.memory.now) self.old self.new }
     {
         self.tape[self.at] = e;
@@ -35,7 +34,7 @@ impl<'a, O: LabelOrder, B: Bank> Turn<'a, O, B> {
     }
 
     pub(crate) fn instruction(&mut self)
-        requires { self.old.at < length self.old.tape.now }
+        requires { HasRoom 1 self.old }
         ensures left { Leaves B.cells (instruction self.old.label self.old.number ∷ []) (memory_of B.cells self.old.memory.now) self.old self.new }
     {
         self.note(Entry {
@@ -48,8 +47,8 @@ impl<'a, O: LabelOrder, B: Bank> Turn<'a, O, B> {
 
     // The number that is variable v.
     pub(crate) fn read(&mut self, v: u8) -> u32
-        requires room { self.old.at < length self.old.tape.now }
-        requires number { (IsVariable (tables_of self.old.memory.now) v) × (IsNumber (tables_of self.old.memory.now) v) }
+        requires room { HasRoom 1 self.old }
+        requires number { HasNumber (tables_of self.old.memory.now) v }
         ensures value { result ≡ held (tables_of self.old.memory.now) (memory_of B.cells self.old.memory.now) v 0 }
         ensures left { Leaves B.cells (read (carried (O.meaning (order_of self.old.memory.now)) (tables_of self.old.memory.now) self.old.label v) v result ∷ []) (memory_of B.cells self.old.memory.now) self.old self.new }
     {
@@ -66,8 +65,8 @@ impl<'a, O: LabelOrder, B: Bank> Turn<'a, O, B> {
 
     // Array a at index i, or 0 outside it.
     pub(crate) fn fetch(&mut self, a: u8, i: u32) -> u32
-        requires room { self.old.at < length self.old.tape.now }
-        requires array { (IsVariable (tables_of self.old.memory.now) a) × (IsArray (tables_of self.old.memory.now) a) }
+        requires room { HasRoom 1 self.old }
+        requires array { HasArray (tables_of self.old.memory.now) a }
         ensures value { result ≡ fetched (tables_of self.old.memory.now) (memory_of B.cells self.old.memory.now) a i }
         ensures left { Leaves B.cells (fetch (carried (O.meaning (order_of self.old.memory.now)) (tables_of self.old.memory.now) self.old.label a) a i result ∷ []) (memory_of B.cells self.old.memory.now) self.old self.new }
     {
@@ -85,8 +84,8 @@ impl<'a, O: LabelOrder, B: Bank> Turn<'a, O, B> {
 
     // Sets the number that is variable x.
     pub(crate) fn write(&mut self, x: u8, value: u32)
-        requires room { self.old.at < length self.old.tape.now }
-        requires number { (IsVariable (tables_of self.old.memory.now) x) × (IsNumber (tables_of self.old.memory.now) x) }
+        requires room { HasRoom 1 self.old }
+        requires number { HasNumber (tables_of self.old.memory.now) x }
         ensures left { Leaves B.cells (write self.old.label x value ∷ []) (put (tables_of self.old.memory.now) (memory_of B.cells self.old.memory.now) x 0 value) self.old self.new }
     {
         self.memory.set_number(x, value);
@@ -101,8 +100,8 @@ impl<'a, O: LabelOrder, B: Bank> Turn<'a, O, B> {
 
     // Sets the number that is variable x to a value that is released.
     pub(crate) fn release(&mut self, x: u8, value: u32)
-        requires room { self.old.at < length self.old.tape.now }
-        requires number { (IsVariable (tables_of self.old.memory.now) x) × (IsNumber (tables_of self.old.memory.now) x) }
+        requires room { HasRoom 1 self.old }
+        requires number { HasNumber (tables_of self.old.memory.now) x }
         ensures left { Leaves B.cells (release (label_of (tables_of self.old.memory.now).variables x) x value ∷ []) (put (tables_of self.old.memory.now) (memory_of B.cells self.old.memory.now) x 0 value) self.old self.new }
     {
         self.memory.set_number(x, value);
@@ -118,8 +117,8 @@ impl<'a, O: LabelOrder, B: Bank> Turn<'a, O, B> {
 
     // Sets array x at index i; outside it nothing changes.
     pub(crate) fn store(&mut self, x: u8, i: u32, value: u32)
-        requires room { self.old.at < length self.old.tape.now }
-        requires array { (IsVariable (tables_of self.old.memory.now) x) × (IsArray (tables_of self.old.memory.now) x) }
+        requires room { HasRoom 1 self.old }
+        requires array { HasArray (tables_of self.old.memory.now) x }
         ensures left { Leaves B.cells (store self.old.label x i value ∷ []) (stored (tables_of self.old.memory.now) (memory_of B.cells self.old.memory.now) x i value) self.old self.new }
     {
         self.memory.store(x, i, value);
@@ -135,7 +134,7 @@ impl<'a, O: LabelOrder, B: Bank> Turn<'a, O, B> {
 
     // Names variable v.
     pub(crate) fn name(&mut self, label: u8, v: u8)
-        requires { self.old.at < length self.old.tape.now }
+        requires { HasRoom 1 self.old }
         ensures left { Leaves B.cells (name label v ∷ []) (memory_of B.cells self.old.memory.now) self.old self.new }
     {
         self.note(Entry {
@@ -148,7 +147,7 @@ impl<'a, O: LabelOrder, B: Bank> Turn<'a, O, B> {
 
     // Tells that the run has ended.
     pub(crate) fn end(&mut self)
-        requires { self.old.at < length self.old.tape.now }
+        requires { HasRoom 1 self.old }
         ensures left { Leaves B.cells (end (O.meaning (order_of self.old.memory.now)).public ∷ []) (memory_of B.cells self.old.memory.now) self.old self.new }
     {
         let label = self.memory.program().order().public();

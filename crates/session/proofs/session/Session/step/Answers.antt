@@ -4,7 +4,7 @@ use Rattle.model.specs.Nesting.{record_at}
 use Rattle.model.specs.Machine.{stripped, entries, end_if}
 use Rattle.checker.specs.Contents.{contents}
 use Rattle.session.specs.Acting.{write_at}
-use Rattle.session.specs.Memories.{tables_of, order_of, memory_of}
+use Rattle.session.specs.Memories.{tables_of, order_of, memory_of, records_in}
 use Rattle.session.specs.Stacks.{pile, below_top}
 use Rattle.session.specs.Piles.{piled}
 use Rattle.session.proofs.Moving.{top_runs, room, still_climbs, still_clean}
@@ -24,11 +24,11 @@ advance-requires g c =
     let above = ap (λ (t : ℕ × ℕ). t.1) c.moved-place.ensures in
     (c.requires.0, λ h. room me.memory.program (memory_of g.B.Bank.cells me.memory) (pile me.stack) _ _ _ c.top-n.ensures is me.climbs me.clean (omega (arith, h, above)))
 
-pub take-requires-clause-runs : goal.take-requires-clause-runs
-take-requires-clause-runs g c =
+pub take-requires : goal.take-requires
+take-requires g c =
     let me = c.args.self.now in
     let is = c.record-taken.ensures ∙ ap (λ q. record_at (contents q).tables.records c.top-n.result) c.program.ensures in
-    top_runs me.memory.program (memory_of g.B.Bank.cells me.memory) (pile me.stack) _ _ _ c.top-n.ensures is me.climbs me.clean
+    record { room = omega arith; runs = top_runs me.memory.program (memory_of g.B.Bank.cells me.memory) (pile me.stack) _ _ _ c.top-n.ensures is me.climbs me.clean }
 
 pub invariant_of-self : goal.invariant_of-self
 invariant_of-self g c =
@@ -36,8 +36,8 @@ invariant_of-self g c =
     let is = c.record-taken.ensures ∙ ap (λ q. record_at (contents q).tables.records c.top-n.result) c.program.ensures in
     let go = c.advance.ensures ∙ ap (λ (t : ℕ × ℕ). stripped (t.1 ∷ (t.0 ∷ below_top (pile me.stack)))) c.moved-place.ensures in
     record {
-      climbs = ap (λ q. piled q.record_count (pile c.advance.new.self)) c.take.ensures.left.program
-          ∙ ap (piled me.memory.program.record_count) go
+      climbs = ap (λ q. piled (records_in q) (pile c.advance.new.self)) c.take.ensures.program
+          ∙ ap (piled (records_in me.memory.program)) go
           ∙ still_climbs me.memory.program (memory_of g.B.Bank.cells me.memory) (pile me.stack) _ _ _ c.top-n.ensures is me.climbs me.clean;
       clean = still_clean (pile c.advance.new.self) _ go;
     }
@@ -54,9 +54,9 @@ returns g c =
     let wrote = ap (λ b. entries L p c.top-n.result r.label r.form m ++ end_if L b) c.is_empty-last.ensures
     ∙ sym (written_is L p m (pile me.stack) _ _ r c.top-n.ensures is (pile c.advance.new.self) go) in
     record {
-      config = step_after L p m (pile me.stack) _ _ r c.top-n.ensures is (pile c.advance.new.self) go _ c.take.ensures.left.memory;
-      tape = let t = c.take.ensures.left.tape ∙ ap (write_at c.args.tape.now c.args.at) wrote in let same = sym c.take.ensures.left.lent.1 in grind arith;
-      at = c.take.ensures.left.at ∙ ap (λ (es : List Entry). c.args.at + length es) wrote;
+      config = step_after L p m (pile me.stack) _ _ r c.top-n.ensures is (pile c.advance.new.self) go _ c.take.ensures.memory;
+      tape = let t = c.take.ensures.tape ∙ ap (write_at c.args.tape.now c.args.at) wrote in let same = sym c.take.ensures.lent.1 in grind arith;
+      at = c.take.ensures.at ∙ ap (λ (es : List Entry). c.args.at + length es) wrote;
       started = refl;
-      program = c.take.ensures.left.program;
+      program = c.take.ensures.program;
     }
