@@ -1,33 +1,21 @@
 -- What is written out is read back. Assumes nothing.
-use Rattle.std.proofs.Common.{◌≡◌, ℕ, ◌+◌, ◌-◌, ◌*◌, ◌^◌, ◌<◌, ◌≤◌, List, [], ◌∷◌, ◌++◌, map, length, get_or, Some, None, codes, decimal, Option, refl, ap, ◌∙◌, append-nil, arith, rules}
+use Rattle.std.proofs.Common.{◌≡◌, ℕ, ◌^◌, ◌<◌, ◌≤◌, List, [], ◌∷◌, ◌++◌, map, length, get_or, Some, None, codes, decimal, Option, refl, ap, ◌∙◌, append-nil, arith}
 use Rattle.std.specs.Option.{option_map}
-use Rattle.std.specs.Str.Parse.{AllDigits, digits_value}
+use Rattle.std.specs.Str.Parse.{digits_value}
 use Rattle.std.proofs.lemmas.Fmt.{decimal_nonempty, digits_decimal, digits_value-decimal}
-use Rattle.std.proofs.lemmas.Str.Parse.{IsNumeralModel, numerals_by_fold, tells_digits, digit_from_value, digit_at}
+use Rattle.std.proofs.lemmas.Str.Parse.{digit_at}
 use Rattle.std.proofs.lemmas.Bool.{le-leb}
 use Rattle.tape.specs.declared.entry.Entry.{Entry}
-use Rattle.script.specs.Commands.{Asked, asked, asks, byte, word, long, call, share, called, share_of, told, entry_of, entry_limits}
+use Rattle.script.specs.Commands.{Asked, asked, asks, byte, word, long, call, share, called, share_of, entry_of, entry_limits}
 use Rattle.script.specs.Fields.{words_of, read_on, field, numbers}
 use Rattle.script.specs.Fields as grammar
-use Rattle.script.specs.Written.{spaced, Fit, Sized, line_of, entry_line, ReadBack, EntryBack}
+use Rattle.tape.specs.Written.{spaced, told, entry_line}
+use Rattle.script.specs.Written.{Fit, Sized, line_of, ReadBack, EntryBack}
 use Rattle.script.specs.declared.command.Command.{Command}
 use Rattle.script.specs.declared.command.Command.TheVariants as command
 use Rattle.script.proofs.Names.{sheet_text}
+use Rattle.script.proofs.Numbers.{own, read_digits}
 use Rattle.script.proofs.Spaces.{Unspaced, whole, divided}
-
--- digits, read on, give the number that they write
-abbrev fold : ℕ → List ℕ → ℕ
-fold n [] = n
-fold n (c ∷ word) = fold (10 * n + (c - 48)) word
-
-own : IsNumeralModel (AllDigits 10) (fold 0)
-own = numerals_by_fold (AllDigits 10) tells_digits fold (search rules)
-
-read_digits : (n : ℕ) (word : List ℕ) → AllDigits 10 word → read_on n word ≡ Some (fold n word)
-read_digits n [] h = refl
-read_digits n (c ∷ word) h =
-    let d = digit_from_value c h.0 in
-    rw (le-leb 48 c d.0, le-leb c 57 d.1) (read_digits (10 * n + (c - 48)) word h.1)
 
 -- a printed number is read
 some_digits : (word : List ℕ) → 0 < length word → grammar.decimal word ≡ read_on 0 word
@@ -107,7 +95,7 @@ entry_same d e p =
     }
 
 untold : (r : Option Entry) (e : Entry) → option_map told r ≡ Some (told e) → r ≡ Some e
-untold None e p = absurd (let z : ◌≡◌ {A = ℕ} 0 1 = cc in omega arith)
+untold None e p = absurd cc
 untold (Some d) e p = ap Some (entry_same d e (let q : told d ≡ told e = cc in q))
 
 entered : (e : Entry) → Fit entry_limits (told e) → entry_of (words_of (entry_line e)) ≡ Some (told e)

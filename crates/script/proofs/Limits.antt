@@ -1,6 +1,6 @@
 -- Words against limits, one by one. Assumes nothing.
-use Rattle.std.proofs.Common.{◌≡◌, ℕ, zero, suc, ◌+◌, ◌<◌, ◌≤◌, leb, List, [], ◌∷◌, ◌++◌, length, get_or, drop, Some, None, Option, sym, refl, ap, ◌∙◌, inl, inr, append_assoc, append-nil, arith, drop-cons}
-use Rattle.std.proofs.lemmas.List.{drop_more, drop_all}
+use Rattle.std.proofs.Common.{◌≡◌, ℕ, zero, suc, ◌+◌, ◌<◌, ◌≤◌, leb, List, [], ◌∷◌, ◌++◌, length, get_or, take, drop, set, Some, None, Option, sym, refl, ap, ap₂, ◌∙◌, inl, inr, append_assoc, append-nil, arith, drop-cons, drop-set-lt}
+use Rattle.std.proofs.lemmas.List.{drop_more, drop_all, take_all, take_more_set}
 use Rattle.std.proofs.lemmas.Bool.{cases_Bool, leb-true, cond-true, cond-false}
 use Rattle.script.specs.Commands.{each}
 use Rattle.script.specs.Fields.{decimal, up_to, field, before, numbers}
@@ -18,38 +18,61 @@ pub front_more : (ns : List ℕ) (n : ℕ) (o : Option (List ℕ)) → front ns 
 front_more ns n None = refl
 front_more ns n (Some more) = ap Some (sym (append_assoc ns (n ∷ []) more))
 
--- a word is missing
-pub short : (limits : List ℕ) (i : ℕ) → i < length limits → numbers (drop i limits) [] ≡ None
-unfolding numbers
-short limits i h = ap (λ l. numbers l []) (drop_more limits i 0 h)
+-- the numbers of words that were read over the limits, up to a place, give what the words that are left give
+pub record Read (all : Option (List ℕ)) (read : List ℕ) (i : ℕ) (words : List (List ℕ)) : Type 0 where
+  pub is : all ≡ front (take i read) (numbers (drop i read) words)
 
-pub step : (limits : List ℕ) (i : ℕ) (word : List ℕ) (words : List (List ℕ)) (o : Option ℕ) → i < length limits → o ≡ field (get_or limits i 0) word → numbers (drop i limits) (word ∷ words) ≡ before o (numbers (drop (i + 1) limits) words)
-unfolding numbers
-step limits i word words o h e =
-    ap (λ l. numbers l (word ∷ words)) (drop_more limits i 0 h) ∙ ap (λ p. before p (numbers (drop (i + 1) limits) words)) (sym e)
+-- the words that are left, written in another way
+pub known : {all : Option (List ℕ)} {read : List ℕ} {i : ℕ} {words : List (List ℕ)} (left : List (List ℕ)) → words ≡ left → Read all read i words → Read all read i left
+known {read = read} {i = i} left e r = record { is = r.is ∙ ap (λ w. front (take i read) (numbers (drop i read) w)) e }
 
--- just as many words as limits
-pub ended : (limits : List ℕ) (i : ℕ) → length limits ≤ i → numbers (drop i limits) [] ≡ Some []
-unfolding numbers
-ended limits i h = ap (λ l. numbers l []) (drop_all i limits h)
+module _ {all : Option (List ℕ)} (read : List ℕ) (i : ℕ) where
+  -- a word is missing
+  pub short : i < length read → Read all read i [] → None ≡ all
+  unfolding numbers
+  short h r = sym (r.is ∙ ap (λ l. front (take i read) (numbers l [])) (drop_more read i 0 h))
 
--- a word is left over
-pub left_over : (limits : List ℕ) (i : ℕ) (word : List ℕ) (words : List (List ℕ)) → length limits ≤ i → numbers (drop i limits) (word ∷ words) ≡ None
-unfolding numbers
-left_over limits i word words h = ap (λ l. numbers l (word ∷ words)) (drop_all i limits h)
+  -- one more word
+  here : (word : List ℕ) (rest : List (List ℕ)) (o : Option ℕ) → i < length read → o ≡ field (get_or read i 0) word → Read all read i (word ∷ rest) → all ≡ front (take i read) (before o (numbers (drop (i + 1) read) rest))
+  unfolding numbers
+  here word rest o h e r =
+      r.is
+      ∙ ap (λ l. front (take i read) (numbers l (word ∷ rest))) (drop_more read i 0 h)
+      ∙ ap (λ p. front (take i read) (before p (numbers (drop (i + 1) read) rest))) (sym e)
+
+  pub stuck : (word : List ℕ) (rest : List (List ℕ)) → i < length read → None ≡ field (get_or read i 0) word → Read all read i (word ∷ rest) → None ≡ all
+  stuck word rest h e r = sym (here word rest None h e r)
+
+  pub more : (word : List ℕ) (rest : List (List ℕ)) (n : ℕ) → i < length read → Some n ≡ field (get_or read i 0) word → Read all read i (word ∷ rest) → Read all (set read i n) (i + 1) rest
+  more word rest n h e r = record {
+    is =
+        here word rest (Some n) h e r
+        ∙ front_more (take i read) n (numbers (drop (i + 1) read) rest)
+        ∙ ap₂ (λ ns l. front ns (numbers l rest)) (sym (take_more_set read i n h)) (sym (drop-set-lt (i + 1) read i n (omega arith)));
+  }
+
+  -- just as many words as limits
+  pub ended : length read ≤ i → Read all read i [] → Some read ≡ all
+  unfolding numbers
+  ended h r = sym (r.is ∙ ap₂ (λ ns l. front ns (numbers l [])) (take_all i read h) (drop_all i read h) ∙ ap Some (append-nil read))
+
+  -- a word is left over
+  pub left_over : (word : List ℕ) (rest : List (List ℕ)) → length read ≤ i → Read all read i (word ∷ rest) → None ≡ all
+  unfolding numbers
+  left_over word rest h r = sym (r.is ∙ ap (λ l. front (take i read) (numbers l (word ∷ rest))) (drop_all i read h))
 
 -- a number before others is there where all are
 parts : (o : Option ℕ) (p : Option (List ℕ)) (ns : List ℕ) → Some ns ≡ before o p → (n : ℕ) × (more : List ℕ) × (o ≡ Some n) × (p ≡ Some more) × (ns ≡ n ∷ more)
-parts None p ns e = absurd (let z : ◌≡◌ {A = ℕ} 0 1 = cc in omega arith)
-parts (Some n) None ns e = absurd (let z : ◌≡◌ {A = ℕ} 0 1 = cc in omega arith)
+parts None p ns e = absurd cc
+parts (Some n) None ns e = absurd cc
 parts (Some n) (Some more) ns e = (n, more, refl, refl, cc)
 
 bounded : (most : ℕ) (o : Option ℕ) (n : ℕ) → up_to most o ≡ Some n → n ≤ most
-bounded most None n e = absurd (let z : ◌≡◌ {A = ℕ} 0 1 = cc in omega arith)
+bounded most None n e = absurd cc
 bounded most (Some m) n e =
     elim (cases_Bool (leb m most)) [
       | inl t ↦ (let same : m ≡ n = cc (cond-true (leb m most) (Some m) None t) in omega (arith, leb-true m most t))
-      | inr t ↦ absurd (let z : ◌≡◌ {A = ℕ} 0 1 = cc (cond-false (leb m most) (Some m) None t) in omega arith)
+      | inr t ↦ absurd (cc (cond-false (leb m most) (Some m) None t))
     ]
 
 -- a field fits its limit
@@ -61,7 +84,7 @@ fitting most word n e = bounded most (decimal word) n e
 pub fit : (limits : List ℕ) (words : List (List ℕ)) (ns : List ℕ) → Some ns ≡ numbers limits words → (k : ℕ) → k < length limits → get_or ns k 0 ≤ get_or limits k 0
 unfolding numbers
 fit [] words ns e k h = absurd (omega arith)
-fit (most ∷ limits) [] ns e k h = absurd (let z : ◌≡◌ {A = ℕ} 0 1 = cc in omega arith)
+fit (most ∷ limits) [] ns e k h = absurd cc
 fit (most ∷ limits) (word ∷ words) ns e zero h =
     let p = parts (field most word) (numbers limits words) ns e in
     let first : get_or ns 0 0 ≡ p.0 = ap (λ l. get_or l 0 0) p.4 in

@@ -1,34 +1,60 @@
--- Decimal numbers, digit by digit. Assumes nothing.
-use Rattle.std.proofs.Common.{◌≡◌, ℕ, ◌+◌, ◌*◌, ◌<◌, ◌≤◌, List, [], ◌∷◌, length, get_or, drop, Some, None, Option, sym, refl, ap, ◌∙◌, arith}
-use Rattle.std.proofs.lemmas.List.{drop_more, drop_all}
-use Rattle.std.proofs.lemmas.Bool.{lt-leb}
-use Rattle.script.specs.Fields.{digit, and_then, read_on, up_to, field}
+-- Decimal numbers, as the library reads them. Assumes nothing.
+use Rattle.std.proofs.Common.{◌≡◌, ℕ, ◌+◌, ◌-◌, ◌*◌, ◌^◌, ◌<◌, Bool, cond, leb, ◌&&◌, List, [], ◌∷◌, get_or, Some, None, Ok, Err, Result, refl, ap, ◌∙◌, sym, ◌⊎◌, inl, inr, arith, rules}
+use Rattle.std.specs.Int.{IsInRange}
+use Rattle.std.specs.Result.{result_ok}
+use Rattle.std.specs.Str.Parse.{AllDigits, ParsesUnsigned}
+use Rattle.std.proofs.lemmas.Str.Parse.{IsNumeralModel, numerals_by_fold, tells_digits, digit_from_value, parse_plain}
+use Rattle.std.proofs.lemmas.Bool.{cases_Bool, cases_lt, and_parts, leb-true, le-leb, lt-leb, cond-false}
+use Rattle.script.specs.Fields.{and_then, read_on, up_to, field}
 
-pub empty : (most : ℕ) (word : List ℕ) → length word ≡ 0 → field most word ≡ None
+-- digits, read on, give the number that they write
+abbrev pub fold : ℕ → List ℕ → ℕ
+fold n [] = n
+fold n (c ∷ word) = fold (10 * n + (c - 48)) word
+
+pub own : IsNumeralModel (AllDigits 10) (fold 0)
+own = numerals_by_fold (AllDigits 10) tells_digits fold (search rules)
+
+pub read_digits : (n : ℕ) (word : List ℕ) → AllDigits 10 word → read_on n word ≡ Some (fold n word)
+read_digits n [] h = refl
+read_digits n (c ∷ word) h =
+    let d = digit_from_value c h.0 in
+    rw (le-leb 48 c d.0, le-leb c 57 d.1) (read_digits (10 * n + (c - 48)) word h.1)
+
+-- digits are read, and nothing else
+reads : (n : ℕ) (word : List ℕ) → AllDigits 10 word ⊎ (read_on n word ≡ None)
+reads n [] = inl tt
+reads n (c ∷ word) =
+    let step = λ (b : Bool). and_then (cond b (Some (c - 48)) None) (λ d. read_on (10 * n + d) word) in
+    elim (cases_Bool (leb 48 c && leb c 57)) [
+      | inl t ↦
+          let p = and_parts (leb 48 c) (leb c 57) t in
+          let range : IsInRange 48 57 c = (leb-true 48 c p.0, leb-true c 57 p.1) in
+          elim (reads (10 * n + (c - 48)) word) [ inl d ↦ inl (tells_digits.more c word range d) | inr e ↦ inr (ap step t ∙ e) ]
+      | inr f ↦ inr (ap step f)
+    ]
+
+-- a word with a sign in front is none
+pub signed : (most : ℕ) (word : List ℕ) → get_or word 0 0 ≡ 43 → field most word ≡ None
 unfolding field
-empty most [] e = refl
-empty most (c ∷ word) e = absurd (omega arith)
+signed most [] e = absurd (omega arith)
+signed most (c ∷ word) e = ap (λ (d : ℕ). up_to most (read_on 0 (d ∷ word))) e
 
-pub begun : (most : ℕ) (word : List ℕ) → (length word ≡ 0 → ⊥) → field most word ≡ up_to most (read_on 0 word)
+-- and one without is what the library reads
+pub parsed : {E : Type 0} (most : ℕ) (word : List ℕ) (r : Result ℕ E) → (get_or word 0 0 ≡ 43 → ⊥) → most < 2 ^ 64 → ParsesUnsigned 64 10 word r → field most word ≡ up_to most (result_ok r)
 unfolding field
-begun most [] h = absurd (h refl)
-begun most (c ∷ word) h = refl
-
--- a number that is too large stays so
-pub too_large : (most n : ℕ) (word : List ℕ) → most < n → up_to most (read_on n word) ≡ None
-too_large most n [] h = rw (lt-leb n most h)
-too_large most n (c ∷ word) h = larger (digit c) (λ d. too_large most (10 * n + d) word (omega arith))
-  where
-    larger : (o : Option ℕ) → ((d : ℕ) → up_to most (read_on (10 * n + d) word) ≡ None) → up_to most (and_then o (λ d. read_on (10 * n + d) word)) ≡ None
-    larger None f = refl
-    larger (Some d) f = f d
-
--- one more character, a digit or none
-pub step : (most n : ℕ) (word : List ℕ) (i : ℕ) (o : Option ℕ) → i < length word → o ≡ digit (get_or word i 0) → up_to most (read_on n (drop i word)) ≡ up_to most (and_then o (λ d. read_on (10 * n + d) (drop (i + 1) word)))
-step most n word i o h e =
-    ap (λ w. up_to most (read_on n w)) (drop_more word i 0 h)
-    ∙ ap (λ p. up_to most (and_then p (λ d. read_on (10 * n + d) (drop (i + 1) word)))) (sym e)
-
--- all characters are read
-pub ended : (most n : ℕ) (word : List ℕ) (i : ℕ) → length word ≤ i → up_to most (read_on n (drop i word)) ≡ up_to most (Some n)
-ended most n word i h = ap (λ w. up_to most (read_on n w)) (drop_all i word h)
+parsed {E} most [] (Ok n) plain small h = let p = parse_plain own {E = E} 64 [] (Ok n) h plain in absurd (omega (arith, p.0.1))
+parsed {E} most (c ∷ word) (Ok n) plain small h =
+    let p = parse_plain own {E = E} 64 (c ∷ word) (Ok n) h plain in
+    ap (up_to most) (read_digits 0 (c ∷ word) p.0.0 ∙ ap Some (sym p.1))
+parsed {E} most [] (Err e) plain small h = refl
+parsed {E} most (c ∷ word) (Err e) plain small h =
+    let n = fold 0 (c ∷ word) in
+    elim (reads 0 (c ∷ word)) [
+      | inl d ↦
+          elim (cases_lt n (2 ^ 64)) [
+            | inl lt ↦ absurd (parse_plain own {E = E} 64 (c ∷ word) (Err e) h plain (d, omega arith, lt))
+            | inr ge ↦ ap (up_to most) (read_digits 0 (c ∷ word) d) ∙ cond-false (leb n most) (Some n) None (lt-leb n most (omega arith))
+          ]
+      | inr none ↦ ap (up_to most) none
+    ]

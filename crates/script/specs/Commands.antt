@@ -1,8 +1,8 @@
 -- What the lines of a script say. Assumes nothing.
-use Rattle.std.specs.Prelude.{ℕ, cond, List, [], ◌∷◌, ◌++◌, replicate, Some, None, codes, Option, slice_index}
+use Rattle.std.specs.Prelude.{ℕ, cond, List, [], ◌∷◌, replicate, Some, None, codes, Option, slice_index}
 use Rattle.std.specs.Option.{option_map}
 use Rattle.std.specs.Str.{bytes_eq}
-use Rattle.tape.specs.declared.entry.Entry.{Entry}
+use Rattle.std.specs.List.{join_with_byte}
 use Rattle.script.specs.Fields.{fields, and_then, field, before, numbers}
 use Rattle.script.specs.declared.command.Command.{Command}
 use Rattle.script.specs.declared.command.Command.TheVariants as command
@@ -78,16 +78,10 @@ bank_of [] = None
 bank_of (kind ∷ words) =
     cond (bytes_eq kind (codes "flat")) (Some (flat words)) (cond (bytes_eq kind (codes "share")) (share_of words) None)
 
--- words with a space between
-abbrev pub joined : List (List ℕ) → List ℕ
-joined [] = []
-joined (first ∷ []) = first
-joined (first ∷ second ∷ words) = first ++ (32 ∷ joined (second ∷ words))
-
--- what stands behind the name
+-- what stands behind the name, with its spaces
 abbrev pub sheet_of : List (List ℕ) → Option Asked
 sheet_of [] = None
-sheet_of (first ∷ words) = Some (sheet (joined (first ∷ words)))
+sheet_of (first ∷ words) = Some (sheet (join_with_byte 32 (first ∷ words)))
 
 -- what the words of a line ask for
 abbrev pub asks : List (List ℕ) → Option Asked
@@ -97,10 +91,7 @@ asks (name ∷ words) =
     (cond (bytes_eq name (codes "sheet")) (sheet_of words)
     (cond (bytes_eq name (codes "bank")) (bank_of words) (call_of name words)))
 
--- an entry as it is written
-abbrev pub told : Entry → List ℕ
-told e = e.kind ∷ e.label ∷ e.record ∷ e.variable ∷ e.index ∷ e.value ∷ []
-
+-- the limits of an entry's numbers
 abbrev pub entry_limits : List ℕ
 entry_limits = byte ∷ byte ∷ short ∷ byte ∷ word ∷ word ∷ []
 

@@ -1,16 +1,11 @@
 -- A line as words, and a word as a decimal number. Assumes nothing.
 use Rattle.std.specs.Prelude.{ℕ, ◌+◌, ◌-◌, ◌*◌, cond, ◌&&◌, List, [], ◌∷◌, Some, None, Option, ◌==◌, nat_le}
+use Rattle.std.specs.List.{slice_split}
 use Rattle.std.specs.Borrow.{Bor}
-
--- a character in front of the first word
-abbrev pub onto : ℕ → List (List ℕ) → List (List ℕ)
-onto c [] = (c ∷ []) ∷ []
-onto c (word ∷ words) = (c ∷ word) ∷ words
 
 -- the words of a text, which are divided by one space each
 unfoldable pub words_of : List ℕ → List (List ℕ)
-words_of [] = [] ∷ []
-words_of (c ∷ text) = cond (c == 32) ([] ∷ words_of text) (onto c (words_of text))
+words_of text = slice_split (λ c. c == 32) text
 
 -- the words of a text that may be missing
 abbrev pub fields : Option (Bor (List ℕ)) → List (List ℕ)

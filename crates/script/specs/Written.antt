@@ -1,14 +1,10 @@
 -- Commands and entries written out as lines, and that these lines are read as them. Assumes nothing.
 use Rattle.std.specs.Prelude.{◌≡◌, ℕ, ◌^◌, ◌<◌, ◌≤◌, List, [], ◌∷◌, ◌++◌, Some, None, codes, decimal, Option}
 use Rattle.tape.specs.declared.entry.Entry.{Entry}
-use Rattle.script.specs.Commands.{Asked, asked, byte, word, long, told, entry_limits}
+use Rattle.tape.specs.Written.{spaced, told, entry_line}
+use Rattle.script.specs.Commands.{Asked, asked, byte, word, long, entry_limits}
 use Rattle.script.specs.declared.command.Command.{Command}
 use Rattle.script.specs.declared.command.Command.TheVariants as command
-
--- numbers in decimal digits, a space before each
-abbrev pub spaced : List ℕ → List ℕ
-spaced [] = []
-spaced (n ∷ ns) = 32 ∷ (decimal n ++ spaced ns)
 
 -- numbers of 64 bits, one for each limit, that do not pass it
 abbrev pub Fit : List ℕ → List ℕ → Type 0
@@ -53,10 +49,6 @@ Sized (command.Pick party buffer count) = Fit (byte ∷ 100000 ∷ 10000 ∷ [])
 abbrev pub ReadBack : List ℕ → Option Asked → Type 0
 ReadBack line r = (c : Command) → Sized c → line ≡ line_of c → r ≡ Some (asked c)
 
--- an entry as a line
-abbrev pub entry_line : Entry → List ℕ
-entry_line e = codes "entry" ++ spaced (told e)
-
--- an entry that is written out is read as itself
+-- an entry that is printed is read as itself
 abbrev pub EntryBack : List ℕ → Option Entry → Type 0
 EntryBack line r = (e : Entry) → Fit entry_limits (told e) → line ≡ entry_line e → r ≡ Some e

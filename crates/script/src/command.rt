@@ -1,7 +1,8 @@
 // Lines as commands: a name, and fields of its own behind it.
 ghost use Rattle.std.specs.Prelude.{◌≡◌, [], ◌∷◌, codes};
 ghost use Rattle.std.specs.Option.{option_map};
-ghost use Rattle.script.specs.Commands.{asked, long, called, call_of, order_of, share_of, bank_of, sheet_of, asks, told, entry_limits, entry_of};
+ghost use Rattle.script.specs.Commands.{asked, long, called, call_of, order_of, share_of, bank_of, sheet_of, asks, entry_limits, entry_of};
+ghost use Rattle.tape.specs.Written.{told};
 ghost use Rattle.script.specs.Fields.{words_of, fields, numbers};
 ghost use Rattle.script.specs.Written.{ReadBack, EntryBack};
 
@@ -199,7 +200,7 @@ fn entry(rest: Option<&str>) -> Option<Entry>
     })
 }
 
-// The entry of a line `entry KIND LABEL RECORD VARIABLE INDEX VALUE`. An entry that is written out is read as itself.
+// The entry of a line `entry KIND LABEL RECORD VARIABLE INDEX VALUE`. An entry that is printed is read as itself.
 pub fn parse_entry(line: &str) -> Option<Entry>
     ensures value { option_map told result ≡ entry_of (words_of line.now) }
     ensures back { EntryBack line.now result }

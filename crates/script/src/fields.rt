@@ -1,6 +1,6 @@
 // Fields of a line: words that are divided by one space, and decimal numbers.
-ghost use Rattle.std.specs.Prelude.{◌≡◌, ◌∷◌};
-ghost use Rattle.script.specs.Fields.{words_of, fields, digit, field, numbers};
+ghost use Rattle.std.specs.Prelude.{◌≡◌, ◌≤◌, ◌∷◌, slice_index, EachIndex, IfSome};
+ghost use Rattle.script.specs.Fields.{words_of, fields, field, numbers};
 
 // The largest fields of 8, 16, 32 and 64 bits.
 pub(crate) const BYTE: u64 = 255;
@@ -11,30 +11,17 @@ pub(crate) const WORD: u64 = 4_294_967_295;
 
 pub(crate) const LONG: u64 = 18_446_744_073_709_551_615;
 
-// The value of a decimal digit.
-fn digit(c: u8) -> Option<u64>
-    ensures { result ≡ digit c }
-{
-    match c {
-        b'0'..=b'9' => Some(u64::from(c - b'0')),
-        _ => None,
-    }
-}
-
 // A word as a decimal number up to `most`.
 pub(crate) fn field(word: &str, most: u64) -> Option<u64>
-    ensures { result ≡ field most word.now }
+    ensures value { result ≡ field most word.now }
+    ensures fit { IfSome result (λ n. n ≤ most) }
 {
-    let text = word.as_bytes();
-    if text.is_empty() {
+    // The library takes a sign in front, a script has none.
+    if word.starts_with('+') {
         return None;
     }
-    let mut n = 0u64;
-    for byte in text {
-        let digit = digit(*byte)?;
-        n = n.checked_mul(10)?.checked_add(digit)?;
-    }
-    if n <= most { Some(n) } else { None }
+    let n = word.parse::<u64>().ok()?;
+    (n <= most).then_some(n)
 }
 
 // The first word of a text, and what comes after the space behind it.
@@ -49,13 +36,14 @@ pub(crate) fn cut(text: &str) -> (&str, Option<&str>)
 
 // Numbers up to the limits, one for each, that end the line.
 pub(crate) fn numbers<const N: usize>(rest: Option<&str>, limits: [u64; N]) -> Option<[u64; N]>
-    ensures { result ≡ numbers limits.entry (fields rest.entry) }
+    ensures value { result ≡ numbers limits.entry (fields rest.entry) }
+    ensures fit { IfSome result (λ ns. EachIndex ns (λ k. slice_index ns k ≤ slice_index limits.entry k)) }
 {
-    let mut read = [0; N];
+    let mut read = limits;
     let mut rest = rest;
-    for i in 0..N {
+    for number in read.iter_mut() {
         let (word, more) = cut(rest?);
-        read[i] = field(word, limits[i])?;
+        *number = field(word, *number)?;
         rest = more;
     }
     match rest {

@@ -1,19 +1,16 @@
-use Rattle.std.proofs.Common.{vec_items, sym, ap, ◌∙◌, arith}
+use Rattle.std.proofs.Common.{vec_items, sym, ap, ◌∙◌}
 use Rattle.script.specs.Commands.{each}
 use Rattle.script.specs.Fields.{fields}
-use Rattle.script.proofs.Limits.{front, fitting, each_more, each_stuck, each_none}
+use Rattle.script.proofs.Limits.{front, each_more, each_stuck, each_none}
 use Rattle.script.proofs.bank.each.Goals as goal
-
-pub overflow_cast-n : goal.overflow_cast-n
-overflow_cast-n c = omega (arith, fitting _ _ _ (sym c.in-Some-field.ensures))
 
 pub returns-in-None : goal.returns-in-None
 returns-in-None c =
-    each_stuck (vec_items c.loop-rest.all) c.cut.result.0.now (fields c.cut.result.1) c.loop-rest.invariant (ap fields c.in-Some.is ∙ c.cut.ensures) c.in-None.ensures
+    each_stuck (vec_items c.loop-rest.all) c.cut.result.0.now (fields c.cut.result.1) c.loop-rest.invariant (ap fields c.in-Some.is ∙ c.cut.ensures) c.in-None.ensures.value
 
 pub loop-rest-preserved : goal.loop-rest-preserved
 loop-rest-preserved c =
-    each_more (vec_items c.loop-rest.all) (vec_items c.push.new.self) c.in-Some-field.n c.cut.result.0.now (fields c.cut.result.1) c.loop-rest.invariant (ap fields c.in-Some.is ∙ c.cut.ensures) c.in-Some-field.ensures c.in_ok-push-in-Some-field.ensures.items
+    each_more (vec_items c.loop-rest.all) (vec_items c.push.new.self) c.in-Some-field.n c.cut.result.0.now (fields c.cut.result.1) c.loop-rest.invariant (ap fields c.in-Some.is ∙ c.cut.ensures) c.in-Some-field.ensures.value c.in_ok-push-in-Some-field.ensures.items
 
 pub returns : goal.returns
 returns c =

@@ -5,4 +5,4 @@ use Rattle.script.proofs.Limits.{spelled}
 use Rattle.script.proofs.command.order_set.Goals as goal
 
 pub returns : goal.returns
-returns c = ap (option_map (call (codes "order set"))) (ap Some (spelled _ 1 (omega arith)) ∙ c.in_ok-parties.ensures)
+returns c = ap (option_map (call (codes "order set"))) (ap Some (spelled _ 1 (omega arith)) ∙ c.in_ok-parties.ensures.value)

@@ -1,6 +1,7 @@
 use Rattle.std.proofs.Common.{◌≡◌, ◌∷◌, sym, ap, ◌∙◌}
 use Rattle.std.specs.Option.{option_map}
-use Rattle.script.specs.Commands.{entry_of, told}
+use Rattle.tape.specs.Written.{told}
+use Rattle.script.specs.Commands.{entry_of}
 use Rattle.script.specs.Fields.{fields, words_of}
 use Rattle.script.proofs.Back.{entry_back}
 use Rattle.script.proofs.Names.{no_entry}

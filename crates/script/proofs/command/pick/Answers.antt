@@ -1,11 +1,8 @@
-use Rattle.std.proofs.Common.{Some, codes, ap, ◌∙◌, arith, lit<}
+use Rattle.std.proofs.Common.{Some, codes, ap, ◌∙◌, arith}
 use Rattle.std.specs.Option.{option_map}
 use Rattle.script.specs.Commands.{call}
-use Rattle.script.proofs.Limits.{fit, spelled}
+use Rattle.script.proofs.Limits.{spelled}
 use Rattle.script.proofs.command.pick.Goals as goal
 
-pub overflow_cast-result : goal.overflow_cast-result
-overflow_cast-result c = omega (arith, fit _ _ _ c.in_ok-party.ensures 0 (lit< tt))
-
 pub returns : goal.returns
-returns c = ap (option_map (call (codes "pick"))) (ap Some (spelled _ 3 (omega arith)) ∙ c.in_ok-party.ensures)
+returns c = ap (option_map (call (codes "pick"))) (ap Some (spelled _ 3 (omega arith)) ∙ c.in_ok-party.ensures.value)

@@ -5,4 +5,4 @@ use Rattle.script.proofs.Limits.{spelled}
 use Rattle.script.proofs.command.run.Goals as goal
 
 pub returns : goal.returns
-returns c = ap (option_map (call (codes "run"))) (ap Some (spelled _ 2 (omega arith)) ∙ c.in_ok-steps.ensures)
+returns c = ap (option_map (call (codes "run"))) (ap Some (spelled _ 2 (omega arith)) ∙ c.in_ok-steps.ensures.value)

@@ -1,77 +1,38 @@
-use Rattle.std.proofs.Common.{◌+◌, ◌<◌, ◌≤◌, length, take, drop, Some, None, sym, ap, ◌∙◌, append-nil, arith, length-set}
-use lib.ListN.{length-replicate}
-use Rattle.std.proofs.lemmas.List.{take_more_set, take_all}
+use Rattle.std.proofs.Common.{[], ap, ◌∙◌, arith, length-set}
 use Rattle.script.specs.Fields.{fields, numbers}
-use Rattle.script.proofs.Limits.{front, front_none, front_more, short, step, ended, left_over}
+use Rattle.script.proofs.Limits.{front_none, known, fit, short, stuck, more, ended, left_over}
 use Rattle.script.proofs.Spaces.{first}
 use Rattle.script.proofs.fields.numbers.Goals as goal
 
-pub loop-i-init : goal.loop-i-init
-loop-i-init g c = (length-replicate g.row.N 0, front_none (numbers c.args.limits (fields c.args.rest)))
+pub loop-number-init : goal.loop-number-init
+loop-number-init g c = (omega arith, record { is = front_none (numbers c.args.limits (fields c.args.rest)) })
 
-pub returns-in_err-rest : goal.returns-in_err-rest
-returns-in_err-rest g c =
-    let limits = c.args.limits in
-    let i = c.loop-i.i in
-    let done = take i c.loop-i.read in
-    let within : i < length limits = omega arith in
-    c.from_residual.ensures
-    ∙ sym (c.loop-i.invariant.1 ∙ ap (λ o. front done (numbers (drop i limits) (fields o))) c.in_err-rest.was ∙ ap (front done) (short limits i within))
+pub returns-in_err-rest-clause-value : goal.returns-in_err-rest-clause-value
+returns-in_err-rest-clause-value g c =
+    c.from_residual.ensures ∙ short c.loop-number.number-items c.loop-number.number-index (omega arith) (known [] (ap fields c.in_err-rest.was) c.loop-number.invariant.1)
 
-pub returns-in_err-read : goal.returns-in_err-read
-returns-in_err-read g c =
-    let limits = c.args.limits in
-    let i = c.loop-i.i in
-    let done = take i c.loop-i.read in
-    let within : i < length limits = omega arith in
-    c.from_residual-in_err-read.ensures
-    ∙ sym
-    (c.loop-i.invariant.1
-    ∙ ap (λ o. front done (numbers (drop i limits) (fields o))) c.in_ok-rest.was
-    ∙ ap (λ ws. front done (numbers (drop i limits) ws)) c.cut.ensures
-    ∙ ap (front done) (step limits i c.cut.result.0.now (fields c.cut.result.1) None within c.in_err-read.ensures))
+pub returns-in_err-number-clause-value : goal.returns-in_err-number-clause-value
+returns-in_err-number-clause-value g c =
+    c.from_residual-in_err-number.ensures
+    ∙ stuck c.loop-number.number-items c.loop-number.number-index c.cut.result.0.now (fields c.cut.result.1) (omega arith) c.in_err-number.ensures.value
+    (known _ (ap fields c.in_ok-rest.was ∙ c.cut.ensures) c.loop-number.invariant.1)
 
-pub loop-i-preserved : goal.loop-i-preserved
-loop-i-preserved g c =
-    let limits = c.args.limits in
-    let i = c.loop-i.i in
-    let read = c.loop-i.read in
-    let done = take i read in
-    let n = c.in_ok-read.field-0 in
-    let rest = fields c.cut.result.1 in
-    let within : i < length limits = omega arith in
-    let room : i < length read = omega arith in (
-      simp length-set c.loop-i.invariant.0,
-      c.loop-i.invariant.1
-          ∙ ap (λ o. front done (numbers (drop i limits) (fields o))) c.in_ok-rest.was
-          ∙ ap (λ ws. front done (numbers (drop i limits) ws)) c.cut.ensures
-          ∙ ap (front done) (step limits i c.cut.result.0.now rest (Some n) within c.in_ok-read.ensures)
-          ∙ front_more done n (numbers (drop (i + 1) limits) rest)
-          ∙ ap (λ ns. front ns (numbers (drop (i + 1) limits) rest)) (sym (take_more_set read i n room)),
-    )
+pub loop-number-preserved : goal.loop-number-preserved
+loop-number-preserved g c = (
+  length-set c.loop-number.number-items c.loop-number.number-index c.in_ok-number.field-0 ∙ c.loop-number.invariant.0,
+  more c.loop-number.number-items c.loop-number.number-index c.cut.result.0.now (fields c.cut.result.1) c.in_ok-number.field-0 (omega arith) c.in_ok-number.ensures.value
+      (known _ (ap fields c.in_ok-rest.was ∙ c.cut.ensures) c.loop-number.invariant.1),
+)
 
-pub returns-in-None : goal.returns-in-None
-returns-in-None g c =
-    let limits = c.args.limits in
-    let i = c.loop-i.i in
-    let read = c.loop-i.read in
-    let past : length limits ≤ i = omega arith in
-    let full : length read ≤ i = omega arith in
-    sym
-    (c.loop-i.invariant.1
-    ∙ ap (λ o. front (take i read) (numbers (drop i limits) (fields o))) c.in-None.is
-    ∙ ap (front (take i read)) (ended limits i past)
-    ∙ ap Some (append-nil (take i read) ∙ take_all i read full))
+pub returns-in-None-clause-value : goal.returns-in-None-clause-value
+returns-in-None-clause-value g c = ended c.loop-number.number-items c.loop-number.number-index (omega arith) (known [] (ap fields c.in-None.is) c.loop-number.invariant.1)
 
-pub returns-in-Some : goal.returns-in-Some
-returns-in-Some g c =
-    let limits = c.args.limits in
-    let i = c.loop-i.i in
-    let done = take i c.loop-i.read in
-    let past : length limits ≤ i = omega arith in
-    let more = first c.in-Some.field-0.now in
-    sym
-    (c.loop-i.invariant.1
-    ∙ ap (λ o. front done (numbers (drop i limits) (fields o))) c.in-Some.is
-    ∙ ap (λ ws. front done (numbers (drop i limits) ws)) more.2
-    ∙ ap (front done) (left_over limits i more.0 more.1 past))
+pub returns-in-Some-clause-value : goal.returns-in-Some-clause-value
+returns-in-Some-clause-value g c =
+    let words = first c.in-Some.field-0.now in
+    left_over c.loop-number.number-items c.loop-number.number-index words.0 words.1 (omega arith) (known _ (ap fields c.in-Some.is ∙ words.2) c.loop-number.invariant.1)
+
+pub returns-in-None-clause-fit : goal.returns-in-None-clause-fit
+returns-in-None-clause-fit g c =
+    let value = ended c.loop-number.number-items c.loop-number.number-index (omega arith) (known [] (ap fields c.in-None.is) c.loop-number.invariant.1) in
+    λ k h. fit c.args.limits (fields c.args.rest) c.loop-number.number-items value k (omega arith)

@@ -1,9 +1,8 @@
-use Rattle.std.proofs.Common.{◌≡◌, length, take, drop}
+use Rattle.std.proofs.Common.{◌≡◌, length}
 use Rattle.script.specs.Fields.{fields, numbers}
-use Rattle.script.proofs.Limits.{front}
+use Rattle.script.proofs.Limits.{Read}
 use Rattle.script.proofs.fields.numbers.Given as goal
 
-abbrev pub invariant-loop-i : goal.invariant-loop-i
-invariant-loop-i g l =
-    (length l.read ≡ g.row.N)
-    × (numbers l.limits (fields l.initial.rest) ≡ front (take l.i l.read) (numbers (drop l.i l.limits) (fields l.rest)))
+abbrev pub invariant-loop-number : goal.invariant-loop-number
+invariant-loop-number g l =
+    (length l.number-items ≡ g.row.N) × Read (numbers l.fn.limits (fields l.initial.rest)) l.number-items l.number-index (fields l.rest)
