@@ -20,8 +20,7 @@ impl FlatBank {
     pub fn into_words(self) -> Vec<u32>
         ensures { result.items ≡ self.words.items }
     {
-        let FlatBank { words } = self;
-        words
+        self.words
     }
 }
 
@@ -33,13 +32,10 @@ impl Bank for FlatBank {
     }
 
     fn get(&mut self, i: usize) -> u32 {
-        if i < self.words.len() {
-            self.words[i]
-        } else {
-            0
-        }
+        self.words.get(i).copied().unwrap_or(0)
     }
 
+    #[tactic(auto, using(std::proofs::lemmas::List::set_past))]
     fn put(&mut self, i: usize, value: u32) {
         if let Some(word) = self.words.get_mut(i) {
             *word = value;

@@ -28,16 +28,14 @@ impl ShareBank {
     pub fn pad(&self) -> u32
         ensures { result ≡ self.now.pad }
     {
-        let ShareBank { pad, .. } = self;
-        *pad
+        self.pad
     }
 
     // Gives the words back.
     pub fn into_words(self) -> Vec<u32>
         ensures { result.items ≡ self.words.items }
     {
-        let ShareBank { words, .. } = self;
-        words
+        self.words
     }
 
     // How many pairs of words there are.
@@ -71,10 +69,12 @@ impl ShareBank {
 impl Bank for ShareBank {
     ghost cells = { λ b. joined_cells b.words.items };
 
+    #[tactic(auto, using(crate::proofs::SharesLaws::length_joined))]
     fn size(&self) -> usize {
         self.pairs()
     }
 
+    #[tactic(auto, using(crate::proofs::SharesLaws::length_joined, crate::proofs::SharesLaws::cell_of_joined, std::proofs::lemmas::List::get_or_past))]
     fn get(&mut self, i: usize) -> u32
         ensures value { result ≡ slice_index (joined_cells self.old.words.items) i }
         ensures kept { joined_cells self.new.words.items ≡ joined_cells self.old.words.items }
@@ -84,6 +84,7 @@ impl Bank for ShareBank {
         if i < self.pairs() { self.joined(i) } else { 0 }
     }
 
+    #[tactic(auto, using(crate::proofs::SharesLaws::length_joined, crate::proofs::SharesLaws::joined_put, crate::proofs::SharesLaws::pad_step, std::proofs::lemmas::List::set_past))]
     fn put(&mut self, i: usize, value: u32)
         ensures cells { joined_cells self.new.words.items ≡ slice_set (joined_cells self.old.words.items) i value }
         ensures words { self.new.words.items ≡ split_put self.old.words.items self.old.pad i value }

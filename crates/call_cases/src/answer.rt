@@ -23,16 +23,6 @@ impl Answer {
     }
 }
 
-// Whether the buffer still holds nothing but marks.
-pub fn untouched<T: PartialEq>(buffer: &[T], mark: &T) -> bool {
-    for place in buffer {
-        if place != mark {
-            return false;
-        }
-    }
-    true
-}
-
 fn print_numbers<W: Write>(out: &mut W, numbers: &[u64]) -> io::Result<()> {
     for number in numbers {
         write!(out, " {number}")?;

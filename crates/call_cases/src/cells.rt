@@ -54,8 +54,6 @@ pub fn take_words(heap: Global, bank: Option<AnyBank>) -> Result<Answer, Fault> 
         }
         None => return Err(Fault::Unreadable),
     };
-    for word in words.iter() {
-        numbers.push(u64::from(*word))?;
-    }
+    numbers.extend(words.iter().map(|word| u64::from(*word)))?;
     Ok(Answer::Numbers("words", numbers))
 }

@@ -1,35 +1,21 @@
 // Why a line has no answer.
-use std::alloc::{AllocError, AllocFailed};
-use std::num::ParseIntError;
+use std::alloc::AllocError;
+use std::num::{ParseIntError, TryFromIntError};
 use std::str::Utf8Error;
+use thiserror::Error;
 
-#[derive(Drop)]
+#[derive(Debug, Drop, Error)]
 pub enum Fault {
     // The line is none of the format.
+    #[error("unreadable")]
     Unreadable,
-    Memory,
-}
-
-impl From<Utf8Error> for Fault {
-    fn from(_e: Utf8Error) -> Fault {
-        Fault::Unreadable
-    }
-}
-
-impl From<ParseIntError> for Fault {
-    fn from(_e: ParseIntError) -> Fault {
-        Fault::Unreadable
-    }
-}
-
-impl From<AllocError> for Fault {
-    fn from(_e: AllocError) -> Fault {
-        Fault::Memory
-    }
-}
-
-impl<T: Drop> From<AllocFailed<T>> for Fault {
-    fn from(_e: AllocFailed<T>) -> Fault {
-        Fault::Memory
-    }
+    #[error("unreadable")]
+    Text(#[from] Utf8Error),
+    #[error("unreadable")]
+    Digits(#[from] ParseIntError),
+    // A number too large for its place.
+    #[error("unreadable")]
+    Range(#[from] TryFromIntError),
+    #[error(transparent)]
+    Memory(#[from(alloc)] AllocError),
 }

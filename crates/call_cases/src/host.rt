@@ -4,10 +4,10 @@ use crate::cells::{flat, get, put, share, take_words};
 use crate::fault::Fault;
 use crate::layouts::{layout, read};
 use crate::line::Line;
-use crate::orders::{Question, known, tell};
+use crate::orders::{each, known, tell};
 use crate::picks::pick_log;
 use choice::{AnyBank, AnyOrder};
-use labels::{PartySet, TwoParty};
+use labels::{LabelOrder, PartySet, TwoParty};
 use refusal::Refusal;
 use std::alloc::Global;
 
@@ -55,9 +55,9 @@ impl Host {
             "read" => read(self.heap, numbers),
             "pick" => pick_log(self.heap, &self.order, numbers),
             "party-set" => self.party_set(numbers),
-            "join" => Question::Join.each(self.heap, &self.order, numbers),
-            "flows" => Question::Flows.each(self.heap, &self.order, numbers),
-            "opens" => Question::Opens.each(self.heap, &self.order, numbers),
+            "join" => each(self.heap, "join", numbers, |m, n| self.order.join(m, n)),
+            "flows" => each(self.heap, "flows", numbers, |m, n| self.order.flows(m, n)),
+            "opens" => each(self.heap, "opens", numbers, |m, n| self.order.opens(m, n)),
             "flat" => flat(self.heap, &mut self.bank, numbers),
             "share" => share(self.heap, &mut self.bank, numbers),
             "put" => put(self.heap, &mut self.bank, numbers),

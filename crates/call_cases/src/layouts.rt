@@ -1,7 +1,7 @@
 // Tables laid out, and sheets read.
-use crate::answer::{Answer, untouched};
+use crate::answer::Answer;
 use crate::fault::Fault;
-use crate::tables::{BYTE, RECORD, VARIABLE, bytes_of, records_in, variables_in};
+use crate::tables::{BYTE, RECORD, VARIABLE, bytes_of, record_in, variable_in};
 use refusal::Refusal;
 use sheet::{ReadSheet, Record, Variable, lay_out};
 use std::alloc::Global;
@@ -20,14 +20,12 @@ fn lay(
     match lay_out(variables, records, &mut buffer) {
         Ok(length) => {
             let mut numbers = vec![in heap; length as u64]?;
-            for byte in buffer.iter() {
-                numbers.push(u64::from(*byte))?;
-            }
+            numbers.extend(buffer.iter().map(|byte| u64::from(*byte)))?;
             Ok(Answer::Numbers("laid", numbers))
         }
         Err(fault) => Ok(Answer::Left {
             refusal: Refusal::from(fault),
-            untouched: untouched(&buffer, &MARK),
+            untouched: buffer.iter().all(|byte| *byte == MARK),
         }),
     }
 }
@@ -38,15 +36,6 @@ fn header(variables: usize, records: usize) -> [u8; 4] {
     [1, variables.min(255) as u8, r0, r1]
 }
 
-// The refusal of bytes that are no sheet.
-fn refusal(bytes: &[u8]) -> Option<Refusal> {
-    let mut sheet = ReadSheet::smallest();
-    match sheet.read(bytes) {
-        Ok(()) => None,
-        Err(fault) => Some(Refusal::from(fault)),
-    }
-}
-
 // Rows that no tables hold, refused as bytes. A count that its field cannot hold is written as the largest that it
 // can, which is refused too.
 fn untyped(heap: Global, variables: &[u8], records: &[u8]) -> Result<Answer, Fault> {
@@ -54,9 +43,9 @@ fn untyped(heap: Global, variables: &[u8], records: &[u8]) -> Result<Answer, Fau
     let mut bytes = header.to_vec(heap)?;
     bytes.extend_from_slice(variables)?;
     bytes.extend_from_slice(records)?;
-    match refusal(&bytes) {
-        Some(refusal) => Ok(Answer::Untyped(refusal)),
-        None => Err(Fault::Unreadable),
+    match ReadSheet::smallest().read(&bytes) {
+        Ok(()) => Err(Fault::Unreadable),
+        Err(fault) => Ok(Answer::Untyped(Refusal::from(fault))),
     }
 }
 
@@ -70,7 +59,12 @@ pub fn layout(heap: Global, numbers: &[u32]) -> Result<Answer, Fault> {
     };
     let variables = bytes_of(heap, variables, &VARIABLE)?;
     let records = bytes_of(heap, records, &RECORD)?;
-    match (variables_in(heap, &variables)?, records_in(heap, &records)?) {
+    let typed_variables: Option<Vec<Variable>> = variables
+        .chunks(4)
+        .map(variable_in)
+        .collect(heap)?;
+    let typed_records: Option<Vec<Record>> = records.chunks(12).map(record_in).collect(heap)?;
+    match (typed_variables, typed_records) {
         (Some(variables), Some(records)) => lay(heap, &variables, &records, *size as usize),
         _ => untyped(heap, &variables, &records),
     }

@@ -14,7 +14,6 @@ mod tables;
 use answer::print;
 use fault::Fault;
 use host::Host;
-use std::alloc::AllocError;
 use std::io;
 use std::io::{BufRead, BufReader, BufWriter, Write};
 
@@ -26,8 +25,8 @@ fn main(rt: HostRuntime) -> io::Result<()> {
         if !line.is_empty() && !line.starts_with(b"#") {
             match host.answer(line.as_slice()) {
                 Ok(answer) => print(&mut out, &answer)?,
-                Err(Fault::Unreadable) => writeln!(out, "unreadable")?,
-                Err(Fault::Memory) => return Err(io::Error::from(AllocError)),
+                Err(Fault::Memory(fault)) => return Err(io::Error::from(fault)),
+                Err(fault) => writeln!(out, "{fault}")?,
             }
         }
     }

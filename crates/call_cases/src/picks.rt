@@ -1,5 +1,5 @@
 // Picks of a log.
-use crate::answer::{Answer, untouched};
+use crate::answer::Answer;
 use crate::fault::Fault;
 use choice::AnyOrder;
 use refusal::Refusal;
@@ -16,32 +16,22 @@ const MARK: Entry = Entry {
     value: 238,
 };
 
-fn parse_entry(row: &[u32]) -> Option<Entry> {
+fn parse_entry(row: &[u32]) -> Result<Entry, Fault> {
     let [kind, label, record, variable, index, value] = *row else {
-        return None;
+        return Err(Fault::Unreadable);
     };
-    if kind > 255 || label > 255 || record > 65_535 || variable > 255 {
-        return None;
-    }
-    Some(Entry {
-        kind: kind as u8,
-        label: label as u8,
-        record: record as u16,
-        variable: variable as u8,
+    Ok(Entry {
+        kind: u8::try_from(kind)?,
+        label: u8::try_from(label)?,
+        record: u16::try_from(record)?,
+        variable: u8::try_from(variable)?,
         index,
         value,
     })
 }
 
 fn parse_tape(heap: Global, numbers: &[u32]) -> Result<Vec<Entry>, Fault> {
-    let mut tape = Vec::new(heap);
-    for row in numbers.chunks(6) {
-        let Some(entry) = parse_entry(row) else {
-            return Err(Fault::Unreadable);
-        };
-        tape.push(entry)?;
-    }
-    Ok(tape)
+    numbers.chunks(6).map(parse_entry).try_collect(heap)
 }
 
 // How many entries were picked, and then the whole buffer.
@@ -65,16 +55,14 @@ pub fn pick_log(heap: Global, order: &AnyOrder, numbers: &[u32]) -> Result<Answe
     let [party, buffer, numbers @ ..] = numbers else {
         return Err(Fault::Unreadable);
     };
-    let (Ok(party), Ok(size)) = (u8::try_from(*party), u16::try_from(*buffer)) else {
-        return Err(Fault::Unreadable);
-    };
+    let (party, size) = (u8::try_from(*party)?, u16::try_from(*buffer)?);
     let tape = parse_tape(heap, numbers)?;
     let mut buffer = vec![in heap; MARK; size as usize]?;
     match pick(order, party, &tape, &mut buffer) {
         Ok(count) => picked(heap, count, &buffer),
         Err(fault) => Ok(Answer::Left {
             refusal: Refusal::from(fault),
-            untouched: untouched(&buffer, &MARK),
+            untouched: buffer.iter().all(|entry| *entry == MARK),
         }),
     }
 }

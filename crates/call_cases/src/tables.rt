@@ -1,8 +1,7 @@
 // The rows of tables: as numbers, as bytes, and as typed entries.
-use crate::answer::untouched;
 use crate::fault::Fault;
 use sheet::{Kind, ReadSheet, Record, Variable};
-use std::alloc::{AllocError, Global};
+use std::alloc::Global;
 
 // How many bytes each field has: kind, label, length.
 pub const VARIABLE: [usize; 3] = [1, 1, 2];
@@ -18,11 +17,15 @@ fn append(bytes: &mut Vec<u8>, row: &[u32], widths: &[usize]) -> Result<(), Faul
     if row.len() != widths.len() {
         return Err(Fault::Unreadable);
     }
-    for k in 0..row.len() {
-        match row[k].to_le_bytes().split_at_checked(widths[k]) {
-            Some((low, high)) if untouched(high, &0) => bytes.extend_from_slice(low)?,
-            _ => return Err(Fault::Unreadable),
+    for (field, width) in row.iter().zip(widths) {
+        let field = field.to_le_bytes();
+        let Some((low, high)) = field.split_at_checked(*width) else {
+            return Err(Fault::Unreadable);
+        };
+        if high.iter().any(|byte| *byte != 0) {
+            return Err(Fault::Unreadable);
         }
+        bytes.extend_from_slice(low)?;
     }
     Ok(())
 }
@@ -41,7 +44,7 @@ pub fn bytes_of(heap: Global, numbers: &[u32], widths: &[usize]) -> Result<Vec<u
 }
 
 // The variable of four bytes, also one whose length is none for an array.
-fn variable_in(row: &[u8]) -> Option<Variable> {
+pub fn variable_in(row: &[u8]) -> Option<Variable> {
     let (label, kind) = match *row {
         [0, label, 0, 0] => (label, Kind::Number),
         [1, label, n0, n1] => (label, Kind::Array(u16::from_le_bytes([n0, n1]))),
@@ -51,7 +54,7 @@ fn variable_in(row: &[u8]) -> Option<Variable> {
 }
 
 // The record of twelve bytes, by reading them behind a header and a number.
-fn record_in(row: &[u8]) -> Option<Record> {
+pub fn record_in(row: &[u8]) -> Option<Record> {
     let [f, l, x, a, b, c, n0, n1, r0, r1, r2, r3] = *row else {
         return None;
     };
@@ -61,28 +64,4 @@ fn record_in(row: &[u8]) -> Option<Record> {
     let mut sheet = ReadSheet::smallest();
     sheet.read(&bytes).ok()?;
     sheet.record(1)
-}
-
-// The variables of these bytes; none where one has no typed entry.
-pub fn variables_in(heap: Global, bytes: &[u8]) -> Result<Option<Vec<Variable>>, AllocError> {
-    let mut variables = Vec::new(heap);
-    for row in bytes.chunks(4) {
-        match variable_in(row) {
-            Some(variable) => variables.push(variable)?,
-            None => return Ok(None),
-        }
-    }
-    Ok(Some(variables))
-}
-
-// The records of these bytes; none where one has no typed entry.
-pub fn records_in(heap: Global, bytes: &[u8]) -> Result<Option<Vec<Record>>, AllocError> {
-    let mut records = Vec::new(heap);
-    for row in bytes.chunks(12) {
-        match record_in(row) {
-            Some(record) => records.push(record)?,
-            None => return Ok(None),
-        }
-    }
-    Ok(Some(records))
 }

@@ -6,11 +6,10 @@ use std::test::Fail;
 #[test]
 fn joins_of_two_parties(rt: HostRuntime) {
     let rows = [[0, 1, 2, 3], [1, 1, 3, 3], [2, 3, 2, 3], [3, 3, 3, 3]];
-    for m in 0..4u8 {
-        for n in 0..4u8 {
-            let joined = TwoParty.join(m, n);
-            assert_eq!(rt; joined, rows[m as usize][n as usize]);
-            assert_eq!(rt; TwoParty.flows(m, n), joined == n);
+    for (m, row) in (0..4u8).zip(&rows) {
+        for (n, joined) in (0..4u8).zip(row) {
+            assert_eq!(rt; TwoParty.join(m, n), *joined);
+            assert_eq!(rt; TwoParty.flows(m, n), *joined == n);
         }
     }
     assert!(rt; TwoParty.public() == 0 && TwoParty.secret() == 3 && TwoParty.parties() == 2);

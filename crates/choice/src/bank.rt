@@ -1,4 +1,4 @@
-// One of the two banks.
+// One of the two banks, by a match in each method: the words and the pad are told of by the variant, which a `dyn` hides.
 ghost use Rattle.std.specs.Prelude.{◌≡◌, slice_index, slice_set};
 ghost use Rattle.choice.specs.Banks.{bank_cells, bank_words, bank_pad, words_after_put, next_pad};
 

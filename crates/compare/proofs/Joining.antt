@@ -13,22 +13,13 @@ use Rattle.compare.specs.Calls.{call_of, calls_of, Performed}
 
 module _ (L : Labels) (p : Program) (s s' : State) (old : List Entry) where
   -- a call that writes nothing
-  silent : (c : session.Call) → (granted L p c s).tape ≡ [] → s' ≡ (perform L p c s).state → Performed L p c s s' old old
+  pub silent : (c : session.Call) → (granted L p c s).tape ≡ [] → s' ≡ (perform L p c s).state → Performed L p c s s' old old
   unfolding perform
   silent c none e = record { state = e; tape = sym (ap (λ (t : List Entry). old ++ t) (go (fault L p c s)) ∙ append-nil old) }
     where
       go : (o : Option SessionFault) → (unless o (record { state = s; tape = [] }) (granted L p c s)).tape ≡ []
       go (Some f) = refl
       go None = none
-
-  pub enter_performed : (q v i k : ℕ) → s' ≡ (perform L p (session.enter q v i k) s).state → Performed L p (session.enter q v i k) s s' old old
-  enter_performed q v i k e = silent (session.enter q v i k) refl e
-
-  pub start_performed : s' ≡ (perform L p session.start s).state → Performed L p session.start s s' old old
-  start_performed e = silent session.start refl e
-
-  pub look_performed : (q v i : ℕ) → s' ≡ (perform L p (session.look q v i) s).state → Performed L p (session.look q v i) s s' old old
-  look_performed q v i e = silent (session.look q v i) refl e
 
 module _ (L : Labels) (p : Program) (calls : List Call) where
   -- one call more

@@ -13,10 +13,10 @@ use Rattle.compare.specs.declared.fault.CompareFault.{CompareFault}
 use Rattle.compare.specs.declared.fault.CompareFault.TheVariants.{Refused, Memory}
 
 -- it holds, unless memory was wanting
-abbrev pub or_memory : {X : Type 0} → Result X CompareFault → Type 0 → Type 0
-or_memory (Ok x) P = P
-or_memory (Err (Refused f)) P = P
-or_memory (Err Memory) P = Unit {0}
+abbrev pub OrMemory : {X : Type 0} → Result X CompareFault → Type 0 → Type 0
+OrMemory (Ok x) P = P
+OrMemory (Err (Refused f)) P = P
+OrMemory (Err Memory) P = Unit {0}
 
 abbrev pub by_pick : Result ℕ LogFault → List Entry → Result (List Entry) CompareFault
 by_pick (Ok n) es = Ok es

@@ -1,4 +1,5 @@
-// The faults that end a comparison.
+// The faults that end a comparison. Clauses name the fault that a `?` makes, and a derive says nothing of it, so these
+// are written out.
 ghost use Rattle.std.specs.Prelude.{◌≡◌};
 ghost use Rattle.tape.specs.Log.{log_refusal};
 ghost use Rattle.compare.specs.declared.fault.CompareFault.TheVariants.{Refused, Memory};

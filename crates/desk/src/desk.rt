@@ -1,11 +1,12 @@
 // What a script works on: an order, an accepted program, a bank, a session with its tape.
-use crate::print::{entries, refused, stop_name};
+ghost use Rattle.std.specs.Prelude.{◌≡◌, ◌≤◌, true, is_ok, vec_len};
+
+use crate::fault::Fault;
 use banks::{Bank, FlatBank, ShareBank};
 use checker::Program;
 use choice::{AnyBank, AnyOrder};
 use hex_text::decode;
 use labels::{LabelOrder, PartySet, TwoParty};
-use refusal::Refusal;
 use script::{Command, parse_entry, parse_line, words};
 use session::Session;
 use std::alloc::Global;
@@ -23,8 +24,11 @@ struct Waiting {
 }
 
 #[derive(Drop)]
-pub struct Desk {
+pub struct Desk<W> {
     heap: Global,
+    out: W,
+    // The number of the line that is played.
+    line: u64,
     order: Option<AnyOrder>,
     program: Option<Program<AnyOrder>>,
     bank: Option<AnyBank>,
@@ -39,36 +43,39 @@ pub struct Desk {
 }
 
 fn is_closed(log: &[Entry]) -> bool {
-    for entry in log {
-        if let Some(Kind::End) = entry.known_kind() {
-            return true;
-        }
-    }
-    false
+    log.iter()
+        .any(|entry| matches!(entry.known_kind(), Some(Kind::End)))
 }
 
 // Makes the buffer at least so long.
-fn widen(room: &mut Vec<Entry>, length: usize) -> io::Result<()> {
+fn widen(room: &mut Vec<Entry>, length: usize) -> Result<(), Fault>
+    ensures { is_ok result ≡ true → length ≤ vec_len room.new }
+{
     if room.len() < length {
         room.resize(length, BLANK)?;
     }
     Ok(())
 }
 
-// A session, where there are a program and a bank.
-fn opened(
-    program: Option<Program<AnyOrder>>,
-    bank: Option<AnyBank>,
-) -> Option<Session<AnyOrder, AnyBank>> {
-    let program = program?;
-    let bank = bank?;
-    Some(Session::open(program, bank))
+// What was written over the front of the buffer.
+fn front(room: &[Entry], count: usize) -> &[Entry] {
+    &room[..count.min(room.len())]
 }
 
-impl Desk {
-    pub fn new(heap: Global) -> Desk {
+// Prints entries, a line each.
+fn tell<W: Write>(out: &mut W, entries: &[Entry]) -> io::Result<()> {
+    for entry in entries {
+        writeln!(out, "{entry}")?;
+    }
+    Ok(())
+}
+
+impl<W: Write> Desk<W> {
+    pub fn new(heap: Global, out: W) -> Desk<W> {
         Desk {
             heap,
+            out,
+            line: 0,
             order: None,
             program: None,
             bank: None,
@@ -80,272 +87,216 @@ impl Desk {
         }
     }
 
-    // Plays one line.
-    pub fn play<W: Write>(&mut self, number: u64, line: &[u8], out: &mut W) -> io::Result<()> {
+    // Plays one line. A line that cannot be read, or that is refused, is answered and ends nothing.
+    pub fn play(&mut self, line: &[u8]) -> io::Result<()> {
+        self.line = self.line.saturating_add(1);
+        let number = self.line;
+        match self.answer(line) {
+            Ok(()) => Ok(()),
+            Err(Fault::Unreadable) => writeln!(self.out, "unreadable {number}"),
+            Err(Fault::NoOrder) => writeln!(self.out, "no order"),
+            Err(Fault::NoSession) => writeln!(self.out, "no session"),
+            Err(Fault::NothingToOpen) => writeln!(self.out, "nothing to open"),
+            Err(Fault::Refused(refusal)) => writeln!(self.out, "{refusal}"),
+            Err(Fault::Io(e)) => Err(e),
+        }
+    }
+
+    pub fn flush(&mut self) -> io::Result<()> {
+        self.out.flush()
+    }
+
+    fn answer(&mut self, line: &[u8]) -> Result<(), Fault> {
         let Ok(text) = std::str::from_utf8(line) else {
-            return writeln!(out, "unreadable {number}");
+            return Err(Fault::Unreadable);
         };
         if text.is_empty() || text.starts_with('#') {
             return Ok(());
         }
         if let Some(waiting) = self.waiting {
-            return self.give(number, text, waiting, out);
+            return self.give(text, waiting);
         }
         match parse_line(text) {
-            Some(command) => self.perform(number, command, out),
-            None => writeln!(out, "unreadable {number}"),
+            Some(command) => self.perform(command),
+            None => Err(Fault::Unreadable),
         }
     }
 
-    fn perform<W: Write>(&mut self, number: u64, command: Command, out: &mut W) -> io::Result<()> {
+    fn perform(&mut self, command: Command) -> Result<(), Fault> {
         match command {
-            Command::OrderTwo => self.set_order(AnyOrder::Two(TwoParty), out),
-            Command::OrderSet(parties) => self.order_set(parties, out),
-            Command::Sheet(digits) => self.sheet(number, digits, out),
-            Command::Flat(text) => self.set_bank(number, None, text, out),
-            Command::Share(pad, text) => self.set_bank(number, Some(pad), text, out),
-            Command::Open => self.open(out),
+            Command::OrderTwo => self.set_order(AnyOrder::Two(TwoParty)),
+            Command::OrderSet(parties) => {
+                let order = PartySet::new(parties as usize)?;
+                self.set_order(AnyOrder::Set(order))
+            }
+            Command::Sheet(digits) => self.sheet(digits),
+            Command::Flat(text) => self.flat(text),
+            Command::Share(pad, text) => self.share(pad, text),
+            Command::Open => self.open(),
             Command::Enter {
                 party,
                 variable,
                 index,
                 value,
-            } => self.enter(party, variable, index, value, out),
-            Command::Start => self.start(out),
-            Command::Run { steps, tape } => self.run(steps, tape, out),
+            } => self.enter(party, variable, index, value),
+            Command::Start => self.start(),
+            Command::Run { steps, tape } => self.run(steps, tape),
             Command::Look {
                 party,
                 variable,
                 index,
-            } => self.look(party, variable, index, out),
-            Command::Log(party) => self.log(party, out),
+            } => self.look(party, variable, index),
+            Command::Log(party) => self.log(party),
             Command::Pick {
                 party,
                 buffer,
                 count,
-            } => self.wait(
-                Waiting {
-                    party,
-                    buffer,
-                    count,
-                },
-                out,
-            ),
+            } => self.wait(Waiting {
+                party,
+                buffer,
+                count,
+            }),
         }
     }
 
-    fn set_order<W: Write>(&mut self, order: AnyOrder, out: &mut W) -> io::Result<()> {
+    fn order(&self) -> Result<AnyOrder, Fault> {
+        self.order.ok_or(Fault::NoOrder)
+    }
+
+    fn set_order(&mut self, order: AnyOrder) -> Result<(), Fault> {
         let parties = order.parties();
         self.order = Some(order);
         self.program = None;
         self.session = None;
         self.tape.clear();
-        writeln!(out, "order {parties}")
+        writeln!(self.out, "order {parties}")?;
+        Ok(())
     }
 
-    fn order_set<W: Write>(&mut self, parties: u64, out: &mut W) -> io::Result<()> {
-        match PartySet::new(parties as usize) {
-            Ok(order) => self.set_order(AnyOrder::Set(order), out),
-            Err(fault) => {
-                let refusal = Refusal::from(fault);
-                writeln!(out, "{refusal}")
-            }
-        }
-    }
-
-    fn sheet<W: Write>(&mut self, number: u64, digits: &str, out: &mut W) -> io::Result<()> {
-        let Some(order) = self.order else {
-            return writeln!(out, "no order");
-        };
+    fn sheet(&mut self, digits: &str) -> Result<(), Fault> {
+        let order = self.order()?;
         let text = if digits == "-" { "" } else { digits };
-        let Some(bytes) = decode(self.heap, text.as_bytes())? else {
-            return writeln!(out, "unreadable {number}");
-        };
+        let bytes = decode(self.heap, text.as_bytes())?.ok_or(Fault::Unreadable)?;
         let mut program = Program::new(order);
-        match read_and_accept(bytes.as_slice(), &order, &mut program) {
-            Ok(sizes) => {
-                self.program = Some(program);
-                writeln!(out, "{sizes}")
-            }
-            Err(refusal) => writeln!(out, "{refusal}"),
-        }
+        let sizes = read_and_accept(bytes.as_slice(), &order, &mut program)?;
+        self.program = Some(program);
+        writeln!(self.out, "{sizes}")?;
+        Ok(())
     }
 
-    fn set_bank<W: Write>(
-        &mut self,
-        number: u64,
-        pad: Option<u32>,
-        text: Option<&str>,
-        out: &mut W,
-    ) -> io::Result<()> {
-        let Some(words) = words(self.heap, text)? else {
-            return writeln!(out, "unreadable {number}");
-        };
-        let bank = match pad {
-            None => AnyBank::Flat(FlatBank::new(words)),
-            Some(pad) => AnyBank::Share(ShareBank::new(words, pad)),
-        };
+    // The words of a bank.
+    fn words(&self, text: Option<&str>) -> Result<Vec<u32>, Fault> {
+        words(self.heap, text)?.ok_or(Fault::Unreadable)
+    }
+
+    fn flat(&mut self, text: Option<&str>) -> Result<(), Fault> {
+        let words = self.words(text)?;
+        self.set_bank(AnyBank::Flat(FlatBank::new(words)))
+    }
+
+    fn share(&mut self, pad: u32, text: Option<&str>) -> Result<(), Fault> {
+        let words = self.words(text)?;
+        self.set_bank(AnyBank::Share(ShareBank::new(words, pad)))
+    }
+
+    fn set_bank(&mut self, bank: AnyBank) -> Result<(), Fault> {
         let cells = bank.size();
         self.bank = Some(bank);
-        writeln!(out, "bank {cells}")
+        writeln!(self.out, "bank {cells}")?;
+        Ok(())
     }
 
-    fn open<W: Write>(&mut self, out: &mut W) -> io::Result<()> {
+    fn open(&mut self) -> Result<(), Fault> {
         if self.program.is_none() || self.bank.is_none() {
-            return writeln!(out, "nothing to open");
+            return Err(Fault::NothingToOpen);
         }
-        let program = std::mem::replace(&mut self.program, None);
-        let bank = std::mem::replace(&mut self.bank, None);
-        self.session = opened(program, bank);
+        let program = self.program.take().ok_or(Fault::NothingToOpen)?;
+        let bank = self.bank.take().ok_or(Fault::NothingToOpen)?;
+        self.session = Some(Session::open(program, bank));
         self.tape.clear();
-        writeln!(out, "opened")
+        writeln!(self.out, "opened")?;
+        Ok(())
     }
 
-    fn enter<W: Write>(
-        &mut self,
-        party: u8,
-        variable: u8,
-        index: u32,
-        value: u32,
-        out: &mut W,
-    ) -> io::Result<()> {
-        let Some(session) = &mut self.session else {
-            return writeln!(out, "no session");
-        };
-        match session.enter(party, variable, index, value) {
-            Ok(()) => writeln!(out, "entered"),
-            Err(fault) => refused(out, fault),
-        }
+    fn session(&mut self) -> Result<&mut Session<AnyOrder, AnyBank>, Fault> {
+        self.session.as_mut().ok_or(Fault::NoSession)
     }
 
-    fn start<W: Write>(&mut self, out: &mut W) -> io::Result<()> {
-        let Some(session) = &mut self.session else {
-            return writeln!(out, "no session");
-        };
-        match session.start() {
-            Ok(()) => writeln!(out, "started"),
-            Err(fault) => refused(out, fault),
-        }
+    fn enter(&mut self, party: u8, variable: u8, index: u32, value: u32) -> Result<(), Fault> {
+        self.session()?.enter(party, variable, index, value)?;
+        writeln!(self.out, "entered")?;
+        Ok(())
     }
 
-    fn run<W: Write>(&mut self, steps: u64, tape: usize, out: &mut W) -> io::Result<()> {
-        let Some(session) = &mut self.session else {
-            return writeln!(out, "no session");
-        };
+    fn start(&mut self) -> Result<(), Fault> {
+        self.session()?.start()?;
+        writeln!(self.out, "started")?;
+        Ok(())
+    }
+
+    fn run(&mut self, steps: u64, tape: usize) -> Result<(), Fault> {
+        let session = self.session.as_mut().ok_or(Fault::NoSession)?;
         widen(&mut self.room, tape)?;
-        if self.room.len() < tape {
-            return Ok(());
-        }
-        match session.run(steps, &mut self.room[0..tape]) {
-            Ok(report) => {
-                let (taken, count, stop) = (report.steps, report.entries, stop_name(report.stop));
-                writeln!(out, "ran {taken} {count} {stop}")?;
-                if count <= self.room.len() {
-                    entries(out, &self.room[0..count])?;
-                    self.tape.extend_from_slice(&self.room[0..count])?;
-                }
-                Ok(())
-            }
-            Err(fault) => refused(out, fault),
-        }
+        let report = session.run(steps, &mut self.room[..tape])?;
+        let (taken, count, stop) = (report.steps, report.entries, report.stop);
+        writeln!(self.out, "ran {taken} {count} {stop}")?;
+        let written = front(&self.room, count);
+        tell(&mut self.out, written)?;
+        self.tape.extend_from_slice(written)?;
+        Ok(())
     }
 
-    fn look<W: Write>(
-        &mut self,
-        party: u8,
-        variable: u8,
-        index: u32,
-        out: &mut W,
-    ) -> io::Result<()> {
-        let Some(session) = &mut self.session else {
-            return writeln!(out, "no session");
-        };
-        match session.look(party, variable, index) {
-            Ok(value) => writeln!(out, "value {value}"),
-            Err(fault) => refused(out, fault),
-        }
+    fn look(&mut self, party: u8, variable: u8, index: u32) -> Result<(), Fault> {
+        let value = self.session()?.look(party, variable, index)?;
+        writeln!(self.out, "value {value}")?;
+        Ok(())
     }
 
-    fn log<W: Write>(&mut self, party: u8, out: &mut W) -> io::Result<()> {
-        if self.session.is_none() {
-            return writeln!(out, "no session");
-        }
-        let Some(order) = self.order else {
-            return writeln!(out, "no order");
-        };
+    fn log(&mut self, party: u8) -> Result<(), Fault> {
+        self.session()?;
+        let order = self.order()?;
         widen(&mut self.room, self.tape.len())?;
-        match pick(&order, party, &self.tape, &mut self.room) {
-            Ok(count) => {
-                if count > self.room.len() {
-                    return Ok(());
-                }
-                let log = &self.room[0..count];
-                let state = if is_closed(log) { "closed" } else { "open" };
-                writeln!(out, "log {count} {state}")?;
-                entries(out, log)
-            }
-            Err(fault) => {
-                let refusal = Refusal::from(fault);
-                writeln!(out, "{refusal}")
-            }
-        }
+        let count = pick(&order, party, &self.tape, &mut self.room)?;
+        let log = front(&self.room, count);
+        let state = if is_closed(log) { "closed" } else { "open" };
+        writeln!(self.out, "log {count} {state}")?;
+        tell(&mut self.out, log)?;
+        Ok(())
     }
 
     // Waits for the entries of a pick.
-    fn wait<W: Write>(&mut self, waiting: Waiting, out: &mut W) -> io::Result<()> {
+    fn wait(&mut self, waiting: Waiting) -> Result<(), Fault> {
         self.given.clear();
         if waiting.count == 0 {
-            return self.picked(waiting, out);
+            return self.picked(waiting);
         }
         self.waiting = Some(waiting);
         Ok(())
     }
 
     // One entry of a pick.
-    fn give<W: Write>(
-        &mut self,
-        number: u64,
-        text: &str,
-        waiting: Waiting,
-        out: &mut W,
-    ) -> io::Result<()> {
-        let Some(entry) = parse_entry(text) else {
-            return writeln!(out, "unreadable {number}");
-        };
+    fn give(&mut self, text: &str, waiting: Waiting) -> Result<(), Fault> {
+        let entry = parse_entry(text).ok_or(Fault::Unreadable)?;
         self.given.push(entry)?;
         if self.given.len() < waiting.count {
             return Ok(());
         }
         self.waiting = None;
-        self.picked(waiting, out)
+        self.picked(waiting)
     }
 
-    fn picked<W: Write>(&mut self, waiting: Waiting, out: &mut W) -> io::Result<()> {
-        let Some(order) = self.order else {
-            return writeln!(out, "no order");
-        };
+    fn picked(&mut self, waiting: Waiting) -> Result<(), Fault> {
+        let order = self.order()?;
         let buffer = waiting.buffer;
         widen(&mut self.room, buffer)?;
-        if self.room.len() < buffer {
-            return Ok(());
-        }
-        match pick(
+        let count = pick(
             &order,
             waiting.party,
             &self.given,
-            &mut self.room[0..buffer],
-        ) {
-            Ok(count) => {
-                writeln!(out, "picked {count}")?;
-                if count > self.room.len() {
-                    return Ok(());
-                }
-                entries(out, &self.room[0..count])
-            }
-            Err(fault) => {
-                let refusal = Refusal::from(fault);
-                writeln!(out, "{refusal}")
-            }
-        }
+            &mut self.room[..buffer],
+        )?;
+        writeln!(self.out, "picked {count}")?;
+        tell(&mut self.out, front(&self.room, count))?;
+        Ok(())
     }
 }

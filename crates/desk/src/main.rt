@@ -2,20 +2,18 @@
 #![tactic(auto)]
 
 mod desk;
-mod print;
+mod fault;
 
 use desk::Desk;
 use std::io;
-use std::io::{BufRead, BufReader, BufWriter, Write};
+use std::io::{BufRead, BufReader, BufWriter};
 
 fn main(rt: HostRuntime) -> io::Result<()> {
-    let mut out = BufWriter::new(rt.alloc(), rt.stdout())?;
-    let mut desk = Desk::new(rt.alloc());
-    let mut number = 0u64;
+    let out = BufWriter::new(rt.alloc(), rt.stdout())?;
+    let mut desk = Desk::new(rt.alloc(), out);
     for line in BufReader::new(rt.alloc(), rt.stdin())?.split(rt.alloc(), b'\n') {
         let line = line?;
-        number = number.saturating_add(1);
-        desk.play(number, line.as_slice(), &mut out)?;
+        desk.play(line.as_slice())?;
     }
-    out.flush()
+    desk.flush()
 }

@@ -12,6 +12,8 @@ use Rattle.model.specs.Faults.{session_refusal_of}
 use Rattle.verdict.specs.declared.sizes.Sizes.{Sizes}
 use Rattle.session.specs.declared.report.RunReport.{RunReport}
 use Rattle.engine.specs.declared.rows.AnswerRow.{AnswerRow}
+use Rattle.engine.specs.declared.fault.Fault.{Fault}
+use Rattle.engine.specs.declared.fault.Fault.TheVariants.{Refused, Memory, NoCall, NoRoom}
 
 abbrev pub layer_code : Layer → ℕ
 layer_code Sheet = 1
@@ -54,8 +56,26 @@ abbrev pub no_room : ℕ → AnswerRow
 no_room n = no 9 0 n
 
 -- variables and records
+abbrev pub sizes_row : Sizes → AnswerRow
+sizes_row s = values s.variables s.records
+
+-- steps and entries
+abbrev pub report_row : RunReport → AnswerRow
+report_row r = record { layer = 0; number = 0; stop = stop_code r.stop; place = 0; first = r.steps; second = r.entries }
+
+abbrev pub fault_row : Fault → AnswerRow
+fault_row (Refused r) = refused_row r
+fault_row Memory = no_memory
+fault_row (NoCall n) = no_call n
+fault_row (NoRoom n) = no_room n
+
+-- the row of an answer that was made, or of why none was
+abbrev pub row_of : Result AnswerRow Fault → AnswerRow
+row_of (Ok row) = row
+row_of (Err f) = fault_row f
+
 abbrev pub check_row : Result Sizes Refusal → AnswerRow
-check_row (Ok s) = values s.variables s.records
+check_row (Ok s) = sizes_row s
 check_row (Err r) = refused_row r
 
 -- entries
@@ -72,7 +92,6 @@ abbrev pub look_row : Result ℕ SessionFault → AnswerRow
 look_row (Ok v) = values v 0
 look_row (Err f) = refused_row (session_refusal_of f)
 
--- steps and entries
 abbrev pub run_row : Result RunReport SessionFault → AnswerRow
-run_row (Ok r) = record { layer = 0; number = 0; stop = stop_code r.stop; place = 0; first = r.steps; second = r.entries }
+run_row (Ok r) = report_row r
 run_row (Err f) = refused_row (session_refusal_of f)

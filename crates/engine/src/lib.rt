@@ -13,14 +13,15 @@ ghost use Rattle.engine.specs.Rows.{check_row, pick_row, OrMemory};
 ghost use Rattle.engine.specs.Playing.{play_row, play_over};
 
 mod answers;
+mod fault;
 mod playing;
 mod rows;
 
-use answers::{answered, refused};
+use answers::{row, told};
 use banks::{FlatBank, ShareBank};
+use fault::Fault;
 use labels::TwoParty;
-use playing::{play, slip};
-use refusal::Refusal;
+use playing::play;
 pub use rows::{AnswerRow, CallRow};
 use std::alloc::Global;
 use tape::{Entry, pick};
@@ -33,8 +34,8 @@ pub extern "C" fn mazgrut_check(sheet: &[u8]) -> AnswerRow
     ensures secret { result.layer ≡ 0 → Accepted two_party (sheet_program sheet.now) × Secrecy two_party (sheet_program sheet.now) }
 {
     match check(sheet, TwoParty) {
-        Ok(sizes) => answered(sizes.variables as u64, sizes.records as u64),
-        Err(refusal) => refused(refusal),
+        Ok(sizes) => AnswerRow::from(sizes),
+        Err(refusal) => AnswerRow::from(Fault::from(refusal)),
     }
 }
 
@@ -45,8 +46,8 @@ pub extern "C" fn mazgrut_pick(party: u8, tape: &[Entry], out: &mut [Entry]) -> 
     ensures buffer { out.new ≡ pick_buffer two_party party tape.now out.old }
 {
     match pick(&TwoParty, party, tape, out) {
-        Ok(entries) => answered(entries as u64, 0),
-        Err(fault) => refused(Refusal::from(fault)),
+        Ok(entries) => told(entries as u64, 0),
+        Err(fault) => AnswerRow::from(Fault::from(fault)),
     }
 }
 
@@ -65,12 +66,12 @@ pub extern "C" fn mazgrut_play_flat(
     ensures answers { answers.new ≡ (play_over result sheet.now (replicate words 0) calls.now tape.old answers.old).answers }
 {
     match vec![in heap; 0u32; words] {
-        Ok(zeros) => play(sheet, FlatBank::new(zeros), calls, tape, answers),
-        Err(_) => slip(7, 0),
+        Ok(zeros) => row(play(sheet, FlatBank::new(zeros), calls, tape, answers)),
+        Err(e) => AnswerRow::from(Fault::from(e)),
     }
 }
 
-// The same over a share bank of so many zeros with its first pad.
+// The same over a share bank of so many zeros with its first pad; a function of its own, since C calls it by its name.
 #[unsafe(no_mangle)]
 pub extern "C" fn mazgrut_play_share(
     heap: Global,
@@ -86,7 +87,7 @@ pub extern "C" fn mazgrut_play_share(
     ensures answers { answers.new ≡ (play_over result sheet.now (joined_cells (replicate words 0)) calls.now tape.old answers.old).answers }
 {
     match vec![in heap; 0u32; words] {
-        Ok(zeros) => play(sheet, ShareBank::new(zeros, pad), calls, tape, answers),
-        Err(_) => slip(7, 0),
+        Ok(zeros) => row(play(sheet, ShareBank::new(zeros, pad), calls, tape, answers)),
+        Err(e) => AnswerRow::from(Fault::from(e)),
     }
 }

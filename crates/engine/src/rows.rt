@@ -1,6 +1,6 @@
 // What crosses to C: rows of plain numbers.
 
-// A call of a session. The number of the call tells which fields count.
+// A call of a session. The number of the call tells which fields count: C knows no enum with fields.
 #[repr(C)]
 #[derive(Clone, Copy)]
 pub struct CallRow {
@@ -15,12 +15,12 @@ pub struct CallRow {
 
 // What a call answers.
 #[repr(C)]
-#[derive(Clone, Copy)]
+#[derive(Clone, Copy, Default)]
 pub struct AnswerRow {
-    // 0 where nothing was refused.
+    // 0 where nothing was refused; a number, since it crosses to C.
     pub layer: u8,
     pub number: u8,
-    // Of a run: 1 ended, 2 spent, 3 full.
+    // Of a run: 1 ended, 2 spent, 3 full; a number, since it crosses to C.
     pub stop: u8,
     pub place: u64,
     // Variables, entries picked, the value looked up, or steps.

@@ -33,12 +33,12 @@ fn pair(a: u8, b: u8) -> Option<u8>
 pub fn decode(heap: Global, text: &[u8]) -> Result<Option<Vec<u8>>, AllocError>
     ensures { IfOk result (λ bytes. option_map vec_items bytes ≡ bytes_of text.now) }
 {
-    if text.len() % 2 != 0 {
-        return Ok(None);
-    }
     let mut bytes = Vec::new(heap);
-    for k in 0..text.len() / 2 {
-        match pair(text[2 * k], text[2 * k + 1]) {
+    for digits in text.chunks(2) {
+        let [high, low] = digits else {
+            return Ok(None);
+        };
+        match pair(*high, *low) {
             Some(byte) => bytes.push(byte)?,
             None => return Ok(None),
         }

@@ -30,27 +30,68 @@ const PIECES: usize = 100;
 // How much each drive stands.
 const MARGIN_TABLE: [u32; DRIVE_COUNT] = [30, 45, 60, 25];
 
-// A recording: for each frame the drive, and the slack that was measured.
+// A frame of a recording: the drive, and the slack that was measured.
 #[derive(Clone, Copy)]
-pub struct Recording {
-    drives: [u32; FRAME_COUNT],
-    slacks: [u32; FRAME_COUNT],
+pub struct Frame {
+    drive: u32,
+    slack: u32,
 }
 
-pub const FIRST: Recording = Recording {
-    drives: [1, 3, 0],
-    slacks: [40, 20, 35],
-};
+type Recording = [Frame; FRAME_COUNT];
 
-pub const OTHER: Recording = Recording {
-    drives: [1, 3, 0],
-    slacks: [50, 20, 35],
-};
+const FIRST: Recording = [
+    Frame {
+        drive: 1,
+        slack: 40,
+    },
+    Frame {
+        drive: 3,
+        slack: 20,
+    },
+    Frame {
+        drive: 0,
+        slack: 35,
+    },
+];
 
-pub const THIRD: Recording = Recording {
-    drives: [2, 0, 1],
-    slacks: [59, 30, 10],
-};
+const OTHER: Recording = [
+    Frame {
+        drive: 1,
+        slack: 50,
+    },
+    Frame {
+        drive: 3,
+        slack: 20,
+    },
+    Frame {
+        drive: 0,
+        slack: 35,
+    },
+];
+
+const THIRD: Recording = [
+    Frame {
+        drive: 2,
+        slack: 59,
+    },
+    Frame {
+        drive: 0,
+        slack: 30,
+    },
+    Frame {
+        drive: 1,
+        slack: 10,
+    },
+];
+
+// One value that a party enters.
+#[derive(Clone, Copy)]
+struct Given {
+    party: u8,
+    variable: u8,
+    index: u32,
+    value: u32,
+}
 
 #[derive(Drop)]
 pub struct Told {
@@ -64,22 +105,45 @@ pub struct Told {
     pub third: Logs,
 }
 
-// Enters both sides' data.
-fn enter_all(
-    session: &mut Session<TwoParty, ShareBank>,
-    recording: Recording,
-) -> anyhow::Result<()> {
-    for (i, margin) in MARGIN_TABLE.iter().enumerate() {
-        if session.enter(MAKER, MARGINS, i as u32, *margin).is_err() {
-            return Err(anyhow!("a margin was refused"));
+// The maker's side.
+fn margins(heap: Global) -> anyhow::Result<Vec<Given>> {
+    let mut all = Vec::new(heap);
+    for (index, margin) in (0..).zip(&MARGIN_TABLE) {
+        all.push(Given {
+            party: MAKER,
+            variable: MARGINS,
+            index,
+            value: *margin,
+        })?;
+    }
+    Ok(all)
+}
+
+// The plant's side.
+fn frames(heap: Global, recording: &[Frame]) -> anyhow::Result<Vec<Given>> {
+    let mut all = Vec::new(heap);
+    for (index, frame) in (0..).zip(recording) {
+        for (variable, value) in [(DRIVES, frame.drive), (SLACKS, frame.slack)] {
+            all.push(Given {
+                party: PLANT,
+                variable,
+                index,
+                value,
+            })?;
         }
     }
-    for i in 0..FRAME_COUNT {
-        let drive = session.enter(PLANT, DRIVES, i as u32, recording.drives[i]);
-        let slack = session.enter(PLANT, SLACKS, i as u32, recording.slacks[i]);
-        if drive.is_err() || slack.is_err() {
-            return Err(anyhow!("a frame was refused"));
-        }
+    Ok(all)
+}
+
+fn enter_all(
+    session: &mut Session<TwoParty, ShareBank>,
+    all: &[Given],
+    refused: &str,
+) -> anyhow::Result<()> {
+    for given in all {
+        session
+            .enter(given.party, given.variable, given.index, given.value)
+            .map_err(|_| anyhow!("{refused}"))?;
     }
     Ok(())
 }
@@ -90,20 +154,13 @@ fn run_piece(
     joined: &mut Vec<Entry>,
 ) -> anyhow::Result<RunReport> {
     let mut tape = [BLANK; TAPE];
-    let Ok(report) = session.run(STEPS, &mut tape) else {
-        return Err(anyhow!("a run was refused"));
-    };
+    let report = session
+        .run(STEPS, &mut tape)
+        .map_err(|_| anyhow!("a run was refused"))?;
     for entry in tape.iter().take(report.entries) {
         joined.push(*entry)?;
     }
     Ok(report)
-}
-
-fn ended(report: RunReport) -> bool {
-    match report.stop {
-        Stop::Ended => true,
-        Stop::Spent | Stop::Full => false,
-    }
 }
 
 // Runs piece by piece until the program has ended.
@@ -116,7 +173,7 @@ fn run_all(
     for _ in 0..PIECES {
         let report = run_piece(session, joined)?;
         pieces.push(report)?;
-        if ended(report) {
+        if report.stop == Stop::Ended {
             break;
         }
     }
@@ -126,36 +183,23 @@ fn run_all(
 // A party's log of the joined tape.
 fn log_of(heap: Global, party: u8, joined: &[Entry]) -> anyhow::Result<Vec<Entry>> {
     let mut log = vec![in heap; BLANK; joined.len()]?;
-    let Ok(entries) = pick(&TwoParty, party, joined, &mut log) else {
-        return Err(anyhow!("the log was refused"));
-    };
+    let entries = pick(&TwoParty, party, joined, &mut log)
+        .map_err(|_| anyhow!("the log was refused"))?;
     log.truncate(entries);
     Ok(log)
 }
 
 // The calls of a whole session with a recording.
-fn calls(heap: Global, recording: Recording) -> anyhow::Result<Vec<Call>> {
+fn calls(heap: Global, recording: &[Frame]) -> anyhow::Result<Vec<Call>> {
     let mut calls = Vec::new(heap);
-    for (i, margin) in MARGIN_TABLE.iter().enumerate() {
+    let mut all = margins(heap)?;
+    all.extend_from_slice(&frames(heap, recording)?)?;
+    for given in &all {
         calls.push(Call::Enter {
-            party: MAKER,
-            variable: MARGINS,
-            index: i as u32,
-            value: *margin,
-        })?;
-    }
-    for i in 0..FRAME_COUNT {
-        calls.push(Call::Enter {
-            party: PLANT,
-            variable: DRIVES,
-            index: i as u32,
-            value: recording.drives[i],
-        })?;
-        calls.push(Call::Enter {
-            party: PLANT,
-            variable: SLACKS,
-            index: i as u32,
-            value: recording.slacks[i],
+            party: given.party,
+            variable: given.variable,
+            index: given.index,
+            value: given.value,
         })?;
     }
     calls.push(Call::Start)?;
@@ -167,39 +211,36 @@ fn calls(heap: Global, recording: Recording) -> anyhow::Result<Vec<Call>> {
 }
 
 // The maker's logs of two sessions: with the first recording over a share bank, and with another over a flat one.
-fn compare_with(heap: Global, sheet: &ReadSheet, recording: Recording) -> anyhow::Result<Logs> {
+fn compare_with(heap: Global, sheet: &ReadSheet, recording: &[Frame]) -> anyhow::Result<Logs> {
     let shares = ShareBank::new(vec![in heap; 0u32; SHARES]?, 1);
     let cells = FlatBank::new(vec![in heap; 7u32; CELLS]?);
-    let ours = calls(heap, FIRST)?;
+    let ours = calls(heap, &FIRST)?;
     let theirs = calls(heap, recording)?;
-    match compare(sheet, &TwoParty, MAKER, shares, &ours, cells, &theirs, heap) {
-        Ok(logs) => Ok(logs),
-        Err(_) => Err(anyhow!("the comparison was refused")),
-    }
+    compare(sheet, &TwoParty, MAKER, shares, &ours, cells, &theirs, heap)
+        .map_err(|_| anyhow!("the comparison was refused"))
 }
 
 // The session with the first recording, from the accepted sheet to both logs; then the comparisons.
 fn play_sheet(heap: Global, bytes: &[u8]) -> anyhow::Result<Told> {
     let mut sheet = ReadSheet::smallest();
-    if sheet.read(bytes).is_err() {
-        return Err(anyhow!("the sheet was refused"));
-    }
+    sheet
+        .read(bytes)
+        .map_err(|_| anyhow!("the sheet was refused"))?;
     let mut program = Program::new(TwoParty);
-    if accept(&sheet, &TwoParty, &mut program).is_err() {
-        return Err(anyhow!("the program was refused"));
-    }
+    accept(&sheet, &TwoParty, &mut program).map_err(|_| anyhow!("the program was refused"))?;
     let bank = ShareBank::new(vec![in heap; 0u32; SHARES]?, 1);
     let mut session = Session::open(program, bank);
-    enter_all(&mut session, FIRST)?;
-    if session.start().is_err() {
-        return Err(anyhow!("the start was refused"));
-    }
+    enter_all(&mut session, &margins(heap)?, "a margin was refused")?;
+    enter_all(&mut session, &frames(heap, &FIRST)?, "a frame was refused")?;
+    session
+        .start()
+        .map_err(|_| anyhow!("the start was refused"))?;
     let mut joined = Vec::new(heap);
     let pieces = run_all(heap, &mut session, &mut joined)?;
     let maker = log_of(heap, MAKER, &joined)?;
     let plant = log_of(heap, PLANT, &joined)?;
-    let other = compare_with(heap, &sheet, OTHER)?;
-    let third = compare_with(heap, &sheet, THIRD)?;
+    let other = compare_with(heap, &sheet, &OTHER)?;
+    let third = compare_with(heap, &sheet, &THIRD)?;
     let told = Told {
         bytes: bytes.len(),
         variables: sheet.variables(),
@@ -215,9 +256,8 @@ fn play_sheet(heap: Global, bytes: &[u8]) -> anyhow::Result<Told> {
 
 pub fn play(heap: Global) -> anyhow::Result<Told> {
     let mut buffer = [0; 512];
-    let Ok(length) = lay_out(&VARIABLES, &RECORDS, &mut buffer) else {
-        return Err(anyhow!("the tables have no sheet"));
-    };
+    let length = lay_out(&VARIABLES, &RECORDS, &mut buffer)
+        .map_err(|_| anyhow!("the tables have no sheet"))?;
     if length > 512 {
         return Err(anyhow!("the sheet is too long"));
     }

@@ -1,7 +1,6 @@
 // Printing what was done.
 use crate::play::Told;
 use crate::task::name;
-use model::Stop;
 use std::fmt;
 use tape::{Entry, Kind};
 
@@ -30,14 +29,6 @@ impl fmt::Display for Line {
     }
 }
 
-fn stop_name(stop: Stop) -> &'static str {
-    match stop {
-        Stop::Ended => "ended",
-        Stop::Spent => "spent",
-        Stop::Full => "full",
-    }
-}
-
 fn is_release(entry: &Entry) -> bool {
     matches!(entry.known_kind(), Some(Kind::Release))
 }
@@ -51,23 +42,19 @@ fn print_log(rt: &impl Print, who: &str, log: &[Entry]) -> anyhow::Result<()> {
         println!(rt; "  {line}")?;
     }
     println!(rt; "Released to the {who}:")?;
-    for entry in log {
-        if is_release(entry) {
-            let line = Line(*entry);
-            println!(rt; "  {line}")?;
-        }
+    for entry in log.iter().filter(|entry| is_release(entry)) {
+        let line = Line(*entry);
+        println!(rt; "  {line}")?;
     }
     Ok(())
 }
 
 // The first place where two entries are not the same.
 fn first_difference(first: &[Entry], second: &[Entry]) -> Option<usize> {
-    for (i, (a, b)) in first.iter().zip(second.iter()).enumerate() {
-        if *a != *b {
-            return Some(i);
-        }
-    }
-    None
+    first
+        .iter()
+        .zip(second.iter())
+        .position(|(a, b)| *a != *b)
 }
 
 // Where two logs of the maker part, if they do.
@@ -103,7 +90,7 @@ impl Told {
         println!(rt; "A sheet of {bytes} bytes: accepted {variables} {records}")?;
         let mut steps = 0u64;
         for piece in &self.pieces {
-            let (taken, entries, stop) = (piece.steps, piece.entries, stop_name(piece.stop));
+            let (taken, entries, stop) = (piece.steps, piece.entries, piece.stop);
             steps = steps.saturating_add(taken);
             println!(rt; "ran {taken} steps, {entries} entries: {stop}")?;
         }

@@ -1,36 +1,19 @@
 -- The party-set order of two to eight parties is lawful. Assumes nothing.
-use Rattle.std.specs.Prelude.{◌≡◌, ℕ, zero, suc, ◌-◌, ◌/◌, ◌%◌, ◌^◌, ◌<◌, ◌≤◌, Bool, true, false, not, ◌==◌, nat_eq, nat_lt, refl}
-use Rattle.std.proofs.Common.{sym, ap, ◌∙◌, arith, mod-lt, pow_pos, pow_mono}
+use Rattle.std.specs.Prelude.{◌≡◌, ℕ, ◌-◌, ◌^◌, ◌≤◌, Bool, false, not, nat_lt, refl}
+use Rattle.std.proofs.Common.{sym, ◌∙◌, arith, pow_pos, pow_mono}
 use Rattle.std.proofs.Math.Nat.{zero-div}
 use Rattle.std.specs.Int.Bits.{bit_or, or_self, or_zero_l}
-use Rattle.std.proofs.lemmas.Nat.{or_shr, or_mod, or_lt, or_comm}
-use Rattle.std.proofs.lemmas.Bool.{ltb-true, lt-ltb, not-true, not_from_false, not_from_true}
+use Rattle.std.proofs.lemmas.Nat.{or_lt, or_comm}
+use Rattle.std.proofs.lemmas.Nat.Bits.{bit_at_or, bit_at-lt, bit_at_ones}
+use Rattle.std.proofs.lemmas.Bool.{eq-eqb, ne_eqb, false≢true, ltb-true, lt-ltb, not-true, not_from_false, not_from_true}
 use Rattle.labels.specs.Labels.{Lawful}
 use Rattle.labels.specs.Orders.{party_set, shut_out}
 use Rattle.labels.specs.ByJoin.{Semilattice, lawful}
-use Rattle.labels.specs.Below.{all_below, below}
 use Rattle.labels.specs.Or.{or_assoc, or_ones}
 
--- a digit of the or is set where one of the two is
-digit_below : (x y : ℕ) → x < 2 → y < 2 → (bit_or x y == 1) ≡ false → (x == 1) ≡ false
-digit_below zero y hx hy e = refl
-digit_below (suc zero) zero hx hy e = e
-digit_below (suc zero) (suc zero) hx hy e = e
-digit_below (suc zero) (suc (suc y)) hx hy e = absurd (omega arith)
-digit_below (suc (suc x)) y hx hy e = absurd (omega arith)
-
-or_bit : (m n p : ℕ) → bit_or m n / 2 ^ p % 2 ≡ bit_or (m / 2 ^ p % 2) (n / 2 ^ p % 2)
-or_bit m n p = ap (λ (x : ℕ). x % 2) (or_shr m n p) ∙ or_mod (m / 2 ^ p) (n / 2 ^ p) 1
-
+-- a party that is let in by the or is let in by both
 shut_below : (m n p : ℕ) → shut_out (bit_or m n) p ≡ false → shut_out m p ≡ false
-shut_below m n p e =
-    digit_below (m / 2 ^ p % 2) (n / 2 ^ p % 2) (mod-lt (m / 2 ^ p) (omega arith)) (mod-lt (n / 2 ^ p) (omega arith))
-    (ap (λ (x : ℕ). nat_eq x 1) (sym (or_bit m n p)) ∙ e)
-
--- every party is shut out of the secret label: a test over two to eight parties
-shut_secret : (n p : ℕ) → n ≤ 8 → p < n → shut_out (2 ^ n - 1) p ≡ true
-shut_secret n p h q =
-    below (shut_out (2 ^ n - 1)) n (below (λ k. all_below (shut_out (2 ^ k - 1)) k) 9 refl n (omega arith)) p q
+shut_below m n p e = ne_eqb _ _ (λ one. false≢true (sym e ∙ eq-eqb _ _ (bit_at_or m n p ∙ omega (arith, bit_at-lt m p, bit_at-lt n p))))
 
 module _ (n : ℕ) (few : n ≤ 8) where
   abbrev known : ℕ → Bool
@@ -48,7 +31,7 @@ module _ (n : ℕ) (few : n ≤ 8) where
     public_neutral = λ m _. or_zero_l m;
     secret_absorbing = λ m km. or_ones m n (ltb-true m (2 ^ n) km);
     public_open = λ p _. rw (zero-div (2 ^ p)) refl;
-    secret_shut = λ p h. not_from_true _ (shut_secret n p few h);
+    secret_shut = λ p h. not_from_true _ (eq-eqb _ _ (bit_at_ones n p h));
     open_join = λ l m p _ _ _ o. not_from_false _ (shut_below l m p (not-true _ o));
   }
 

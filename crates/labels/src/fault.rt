@@ -14,12 +14,11 @@ impl From<OrderFault> for Refusal {
     ghost from_gives = { λ f r. r ≡ order_refusal f };
 
     fn from(f: OrderFault) -> Refusal {
-        match f {
-            OrderFault::Parties(place) => Refusal {
-                layer: Layer::Order,
-                number: 50,
-                place,
-            },
+        let OrderFault::Parties(place) = f;
+        Refusal {
+            layer: Layer::Order,
+            number: 50,
+            place,
         }
     }
 }

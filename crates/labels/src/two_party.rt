@@ -1,4 +1,5 @@
 // The order of two parties: Alice is party 0, Bob party 1.
+ghost use Rattle.std.specs.Prelude.{refl};
 ghost use Rattle.labels.specs.Orders.{two_party};
 ghost use Rattle.labels.specs.TwoLaws.{two_party_lawful};
 
@@ -17,9 +18,13 @@ pub struct TwoParty;
 impl LabelOrder for TwoParty {
     const P: u8 = 0;
 
+    ghost P = { 0 };
+
     ghost meaning = { λ _. two_party };
 
     ghost lawful = { λ o. two_party_lawful };
+
+    ghost public_is_P = { λ _. refl };
 
     fn knows(&self, label: u8) -> bool {
         label < 4
@@ -29,20 +34,16 @@ impl LabelOrder for TwoParty {
         2
     }
 
-    fn public(&self) -> u8 {
-        Self::P
-    }
-
     fn secret(&self) -> u8 {
         SECRET
     }
 
     fn flows(&self, m: u8, n: u8) -> bool {
-        m < 4 && n < 4 && JOIN[m as usize][n as usize] == n
+        self.knows(m) && self.knows(n) && JOIN[m as usize][n as usize] == n
     }
 
     fn join(&self, m: u8, n: u8) -> u8 {
-        if m < 4 && n < 4 {
+        if self.knows(m) && self.knows(n) {
             JOIN[m as usize][n as usize]
         } else {
             SECRET
@@ -50,11 +51,6 @@ impl LabelOrder for TwoParty {
     }
 
     fn opens(&self, label: u8, party: u8) -> bool {
-        match (label, party) {
-            (0, 0..=1) => true,
-            (1, 0) => true,
-            (2, 1) => true,
-            _ => false,
-        }
+        matches!((label, party), (0, 0..=1) | (1, 0) | (2, 1))
     }
 }

@@ -1,14 +1,14 @@
 -- What an answer that may be a refusal tells. Assumes nothing.
-use Rattle.std.proofs.Common.{◌≡◌, ℕ, IsErrAnd, Some, None, Ok, Err, Option, Result, sym, refl, ap, ◌∙◌, arith}
+use Rattle.std.proofs.Common.{◌≡◌, IsErrAnd, Some, None, Ok, Err, Option, Result, sym, refl, ap, ◌∙◌}
 use Rattle.std.proofs.lemmas.Result.{err_from_is_err_and}
 use Rattle.refusal.specs.Answers.{answer}
 
 pub accepted : {F X : Type 0} (o : Option F) (x y : X) → Ok x ≡ answer o y → (o ≡ None) × (x ≡ y)
 accepted None x y e = (refl, cc)
-accepted (Some f) x y e = let z : ◌≡◌ {A = ℕ} 0 1 = cc in absurd (omega arith)
+accepted (Some f) x y e = absurd cc
 
 pub refused : {F X : Type 0} (o : Option F) (f : F) (y : X) → Err f ≡ answer o y → o ≡ Some f
-refused None f y e = let z : ◌≡◌ {A = ℕ} 0 1 = cc in absurd (omega arith)
+refused None f y e = absurd cc
 refused (Some g) f y e = cc
 
 -- the exit of a `?` on the fault f

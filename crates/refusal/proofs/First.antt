@@ -6,7 +6,7 @@ use Rattle.refusal.specs.Answers.{expect, first_below}
 
 pub both_none : {X : Type 0} (o p : Option X) → option_or o p ≡ None → (o ≡ None) × (p ≡ None)
 both_none None p e = (refl, e)
-both_none (Some x) p e = let z : ◌≡◌ {A = ℕ} 0 1 = cc in absurd (omega arith)
+both_none (Some x) p e = absurd cc
 
 module _ {X : Type 0} (f : ℕ → Option X) where
   -- one more index
@@ -41,7 +41,7 @@ module _ {X : Type 0} (f : ℕ → Option X) where
 -- a test that passed, and one that passes
 pub passed : {F : Type 0} (b : Bool) (f : F) → expect b f ≡ None → b ≡ true
 passed true f e = refl
-passed false f e = let z : ◌≡◌ {A = ℕ} 0 1 = cc in absurd (omega arith)
+passed false f e = absurd cc
 
 pub passes : {F : Type 0} (b : Bool) (f : F) → b ≡ true → expect b f ≡ None
 passes b f e = ap (λ t. expect t f) e

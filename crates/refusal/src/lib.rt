@@ -46,14 +46,19 @@ impl Layer {
     }
 }
 
+impl fmt::Display for Layer {
+    ghost output = { λ l. Some (layer_name l) };
+
+    fn fmt<W: fmt::Write>(&self, f: &mut fmt::Formatter<W>) -> fmt::Result {
+        f.write_str(self.name())
+    }
+}
+
 // A refusal prints as `refused LAYER NUMBER PLACE`.
 impl fmt::Display for Refusal {
     ghost output = { λ r. Some (refusal_text r) };
 
     fn fmt<W: fmt::Write>(&self, f: &mut fmt::Formatter<W>) -> fmt::Result {
-        let layer = self.layer.name();
-        let number = self.number;
-        let place = self.place;
-        write!(f, "refused {layer} {number} {place}")
+        write!(f, "refused {} {} {}", self.layer, self.number, self.place)
     }
 }

@@ -1,5 +1,5 @@
 -- Calls: refusals in their order, and what is left. Assumes nothing.
-use Rattle.std.proofs.Common.{◌≡◌, ℕ, Bool, true, false, not, ltb, leb, List, [], length, Some, None, Option, sym, refl, ap, ◌∙◌}
+use Rattle.std.proofs.Common.{◌≡◌, ℕ, Bool, true, false, not, ltb, List, [], length, Some, None, Option, sym, refl, ap, ◌∙◌}
 use Rattle.std.specs.Option.{option_or}
 use Rattle.refusal.specs.Answers.{expect, unless}
 use Rattle.refusal.proofs.First.{both_none, passed}
@@ -7,9 +7,8 @@ use Rattle.tape.specs.declared.entry.Entry.{Entry}
 use Rattle.tape.specs.Log.{overwritten}
 use Rattle.labels.specs.Labels.{Labels}
 use Rattle.model.specs.declared.fault.SessionFault.{SessionFault}
-use Rattle.model.specs.declared.fault.SessionFault.TheVariants.{BankTooSmall, Started, NoParty, NoPlace, NotStarted, Ended, TapeTooShort}
+use Rattle.model.specs.declared.fault.SessionFault.TheVariants.{BankTooSmall, NoParty, NoPlace}
 use Rattle.model.specs.Program.{Program, cells_needed}
-use Rattle.model.specs.Machine.{ended}
 use Rattle.model.specs.Session.{State, Call, enter, start, run, look, Done, granted, too_small, has_place, fault, perform}
 use Rattle.session.specs.States.{access_fault}
 
@@ -33,28 +32,19 @@ module _ (L : Labels) (p : Program) (c : Call) (s : State) where
   unfolding perform
   granted_tape t e = sym (ap (λ (o : Option SessionFault). overwritten (unless o same (granted L p c s)).tape t) e)
 
--- a chain of two tests, and what comes after
-chain : (a b a' b' : Bool) (x y : SessionFault) (o o' : Option SessionFault) → a ≡ a' → b ≡ b' → o ≡ o' →
-    option_or (expect (not a) x) (option_or (expect (not b) y) o) ≡ option_or (expect (not a') x) (option_or (expect (not b') y) o')
-chain a b a' b' x y o o' p q r i = option_or (expect (not (p i)) x) (option_or (expect (not (q i)) y) (r i))
+join : {X : Type 0} (a b c : Option X) → option_or a (option_or b c) ≡ option_or (option_or a b) c
+join None b c = refl
+join (Some x) b c = refl
 
 module _ (L : Labels) (p : Program) (s : State) where
   abbrev small : Bool
   small = ltb (length s.config.memory.cells) (cells_needed p)
 
   module _ (q v i : ℕ) where
-    module _ (k : ℕ) where
-      pub enter_small : small ≡ true → fault L p (enter q v i k) s ≡ Some BankTooSmall
-      unfolding fault too_small
-      enter_small a = chain small s.started true s.started BankTooSmall Started (access_fault L p q v i) (access_fault L p q v i) a refl refl
-
-      pub enter_started : small ≡ false → s.started ≡ true → fault L p (enter q v i k) s ≡ Some Started
-      unfolding fault too_small
-      enter_started a b = chain small s.started false true BankTooSmall Started (access_fault L p q v i) (access_fault L p q v i) a b refl
-
-      pub enter_access : (o : Option SessionFault) → small ≡ false → s.started ≡ false → access_fault L p q v i ≡ o → fault L p (enter q v i k) s ≡ o
-      unfolding fault too_small
-      enter_access o a b e = chain small s.started false false BankTooSmall Started (access_fault L p q v i) o a b e
+    -- an enter is refused as a start is, or for want of access
+    pub enter_by : (k : ℕ) (o : Option SessionFault) → fault L p start s ≡ o → fault L p (enter q v i k) s ≡ option_or o (access_fault L p q v i)
+    unfolding fault too_small
+    enter_by k o e = join (expect (not small) BankTooSmall) _ _ ∙ ap (λ (x : Option SessionFault). option_or x (access_fault L p q v i)) e
 
     pub look_small : small ≡ true → fault L p (look q v i) s ≡ Some BankTooSmall
     unfolding fault too_small
@@ -80,16 +70,7 @@ module _ (L : Labels) (p : Program) (s : State) where
         go (Some f) = refl
         go None = refl
 
-  pub start_small : small ≡ true → fault L p start s ≡ Some BankTooSmall
-  unfolding fault too_small
-  start_small a = ap (λ (b : Bool). option_or (expect (not b) BankTooSmall) (expect (not s.started) Started)) a
-
-  pub start_by : (b : Bool) → small ≡ false → s.started ≡ b → fault L p start s ≡ expect (not b) Started
-  unfolding fault too_small
-  start_by b a e = ap (λ (b : Bool). option_or (expect (not b) BankTooSmall) (expect (not s.started) Started)) a ∙ ap (λ (t : Bool). expect (not t) Started) e
-
-  module _ (n room : ℕ) where
-    pub run_by : (a b c : Bool) → s.started ≡ a → ended s.config ≡ b → leb 6 room ≡ c →
-        fault L p (run n room) s ≡ option_or (expect a NotStarted) (option_or (expect (not b) Ended) (expect c TapeTooShort))
-    unfolding fault
-    run_by a b c x y z i = option_or (expect (x i) NotStarted) (option_or (expect (not (y i)) Ended) (expect (z i) TapeTooShort))
+  -- the steps that are asked for do not matter
+  pub run_by : (n room : ℕ) (o : Option SessionFault) → fault L p (run 0 room) s ≡ o → fault L p (run n room) s ≡ o
+  unfolding fault
+  run_by n room o e = e

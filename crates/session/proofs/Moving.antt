@@ -12,6 +12,7 @@ use Rattle.checker.specs.declared.program.Program as checked
 use Rattle.checker.specs.Contents.{contents}
 use Rattle.rules.specs.Shape.{link_fits, record_fits}
 use Rattle.session.proofs.StackLaws.{clean_top, stripped_twice}
+use Rattle.session.specs.Memories.{records_in}
 use Rattle.session.specs.Piles.{piled, moved}
 use Rattle.session.proofs.Sound.{few_records, some_record, records_within, record_sound, fits_links, fits_runs}
 use Rattle.session.specs.Acting.{Runs}
@@ -101,12 +102,12 @@ piled_stripped count (suc r ∷ s) h = h
 
 -- record n on top of a clean stack that climbs
 module _ {A : Type 0} {g : LabelOrder.Ghosts A} (q : checked.Program A g) (m : Memory) (st : List ℕ) (n : ℕ) (rest : List ℕ) (r : Record) (on : st ≡ n ∷ rest)
-    (is : r ≡ record_at (contents q).tables.records n) (climbs : piled q.record_count st ≡ true) (clean : stripped st ≡ st) where
+    (is : r ≡ record_at (contents q).tables.records n) (climbs : piled (records_in q) st ≡ true) (clean : stripped st ≡ st) where
   abbrev p : Program
   p = (contents q).tables
 
   abbrev count : ℕ
-  count = q.record_count
+  count = records_in q
 
   abbrev size : ℕ
   size = length p.records
@@ -168,9 +169,9 @@ pub still_clean : (st s : List ℕ) → st ≡ stripped s → stripped st ≡ st
 still_clean st s e = ap stripped e ∙ stripped_twice s ∙ sym e
 
 -- record 1 alone
-pub first_climbs : {A : Type 0} {g : LabelOrder.Ghosts A} (q : checked.Program A g) (st : List ℕ) → st ≡ 1 ∷ [] → piled q.record_count st ≡ true
+pub first_climbs : {A : Type 0} {g : LabelOrder.Ghosts A} (q : checked.Program A g) (st : List ℕ) → st ≡ 1 ∷ [] → piled (records_in q) st ≡ true
 unfolding Rises
-first_climbs q st e = ap (piled q.record_count) e ∙ and_from _ _ (test_rises q.record_count 0 1 (λ h. (omega arith, some_record q))) refl
+first_climbs q st e = ap (piled (records_in q)) e ∙ and_from _ _ (test_rises (records_in q) 0 1 (λ h. (omega arith, some_record q))) refl
 
 pub first_clean : (st : List ℕ) → st ≡ 1 ∷ [] → stripped st ≡ st
 unfolding stripped

@@ -1,8 +1,8 @@
 -- Runs: what was done, joined with what remains to be done, is the whole run. Assumes nothing.
-use Rattle.std.proofs.Common.{◌≡◌, ℕ, zero, suc, ◌+◌, ◌-◌, ◌<◌, ◌≤◌, true, false, eqb, List, [], ◌∷◌, ◌++◌, length, take, drop, set, sym, refl, ap, ◌∙◌, zero-add, add-one, arith}
+use Rattle.std.proofs.Common.{◌≡◌, ℕ, zero, suc, ◌+◌, ◌-◌, ◌<◌, ◌≤◌, true, false, List, [], ◌∷◌, ◌++◌, length, take, drop, set, sym, refl, ap, ◌∙◌, zero-add, add-one, arith}
 use Rattle.std.proofs.lemmas.List.Edits.{sets, sets-eq}
 use Rattle.std.proofs.lemmas.List.{append_assoc, append-nil, take_at, drop_at, take-append-drop, length-append, length-take-le, drop-drop}
-use Rattle.std.proofs.lemmas.Bool.{cond-true, cond-false, lt-ltb, le-ltb, both_ways, ne_eqb}
+use Rattle.std.proofs.lemmas.Bool.{cond-true, cond-false, lt-ltb, le-ltb, both_ways}
 use Rattle.tape.specs.declared.entry.Entry.{Entry}
 use Rattle.tape.specs.Log.{overwritten}
 use Rattle.labels.specs.Labels.{Labels}
@@ -14,15 +14,6 @@ use Rattle.model.specs.Session.{Ran, steps, then_ran, stopped}
 use Rattle.model.proofs.Bounds.{written_six}
 use Rattle.session.specs.Acting.{write_at}
 use Rattle.session.specs.Reports.{reported}
-
--- the stack is empty when it has no height
-pub ended_is : (c : Config) → eqb (length c.stack) 0 ≡ ended c
-unfolding ended
-ended_is c = go c.stack
-  where
-    go : (st : List ℕ) → eqb (length st) 0 ≡ is_empty st
-    go [] = refl
-    go (x ∷ st) = ne_eqb (suc (length st)) 0 (λ e. omega (arith, e))
 
 pub not_ended : (c : Config) → ended c ≡ false → 0 < length c.stack
 unfolding ended

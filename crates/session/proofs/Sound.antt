@@ -14,6 +14,7 @@ use Rattle.checker.specs.Contents.{contents}
 use Rattle.rules.specs.Shape.{is_number, is_array, present, right_kinds, same_length, links_fit, record_fits}
 use Rattle.checker.specs.Checks.{tables_fit}
 use Rattle.checker.proofs.Decided.{a_and, a_all, a_lt, a_eq, a_number, a_array}
+use Rattle.session.specs.Memories.{records_in}
 use Rattle.session.specs.Acting.{Runs}
 
 fits_at : (vs : List Variable) (rs : List Record) (n k : ℕ) → tables_fit vs rs n ≡ true → 1 ≤ k → k ≤ n → record_fits vs (length rs) k (record_at rs k) ≡ true
@@ -27,16 +28,16 @@ fits_at vs rs (suc j) k e l h =
     (cases_eq k (suc j))
 
 module _ {A : Type 0} {g : LabelOrder.Ghosts A} (q : checked.Program A g) where
-  pub few_records : q.record_count ≤ 512
+  pub few_records : records_in q ≤ 512
   few_records = q.fits.1
 
-  pub some_record : 1 ≤ q.record_count
+  pub some_record : 1 ≤ records_in q
   some_record = q.fits.2
 
-  pub records_within : length (contents q).tables.records ≤ q.record_count
+  pub records_within : length (contents q).tables.records ≤ records_in q
   records_within = omega (arith, length-take q.record_count q.records)
 
-  pub record_sound : (k : ℕ) → 1 ≤ k → k ≤ q.record_count →
+  pub record_sound : (k : ℕ) → 1 ≤ k → k ≤ records_in q →
       record_fits (contents q).tables.variables (length (contents q).tables.records) k (record_at (contents q).tables.records k) ≡ true
   record_sound k l h = fits_at (contents q).tables.variables (contents q).tables.records q.record_count k q.sound l h
 

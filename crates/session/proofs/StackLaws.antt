@@ -1,87 +1,80 @@
 -- Laws of the stack as a list.
-use Rattle.std.proofs.Common.{◌≡◌, ℕ, zero, suc, ◌+◌, ◌-◌, ◌<◌, ◌≤◌, ◌≢◌, List, [], ◌∷◌, length, get_or, set, sym, refl, ap, ◌∙◌, arith, length-set, get_or-set_other, get_or-set_same}
-use Rattle.session.specs.Stacks.{top_first, below_top}
-use Rattle.model.specs.Machine.{stripped}
+use Rattle.std.proofs.Common.{◌≡◌, ℕ, zero, suc, ◌-◌, ◌<◌, ◌≤◌, Bool, true, false, eqb, List, [], ◌∷◌, ◌++◌, length, get_or, take, drop, set, length-set, sym, refl, ap, ◌∙◌, arith}
+use Rattle.std.proofs.lemmas.Bool.{ne_eqb}
+use Rattle.std.proofs.lemmas.List.{length-reverse, reverse-append, take_all, take_at}
+use Rattle.std.proofs.Math.Seq.{take-suc, take-suc-set}
+use Rattle.std.specs.List.{refill}
+use mathlib.Core.List.{reverse}
+use Rattle.session.specs.Stacks.{below_top}
+use Rattle.model.specs.Machine.{is_empty, stripped}
 
-pub length_top_first : (es : List ℕ) (n : ℕ) → n ≡ length (top_first es n)
-length_top_first es zero = refl
-length_top_first es (suc n) = ap suc (length_top_first es n)
+empty_is : (st : List ℕ) → eqb (length st) 0 ≡ is_empty st
+empty_is [] = refl
+empty_is (x ∷ st) = ne_eqb (suc (length st)) 0 (λ e. omega (arith, e))
 
-pub top_first_pred : (es : List ℕ) (n : ℕ) → 0 < n → top_first es n ≡ get_or es (n - 1) 0 ∷ top_first es (n - 1)
-top_first_pred es zero h = absurd (omega arith)
-top_first_pred es (suc n) h = let e : suc n - 1 ≡ n = omega arith in rw e
+pub pile_empty : (xs : List ℕ) → eqb (length xs) 0 ≡ is_empty (reverse xs)
+pile_empty xs = ap (λ (n : ℕ). eqb n 0) (sym (length-reverse xs)) ∙ empty_is (reverse xs)
 
--- a write at or above n leaves the first n
-pub top_first_set : (es : List ℕ) (i v n : ℕ) → n ≤ i → top_first (set es i v) n ≡ top_first es n
-top_first_set es i v zero h = refl
-top_first_set es i v (suc n) h =
-    let ne : n ≢ i = omega arith in
-    rw (get_or-set_other es i n v 0 ne) (ap (λ t. get_or es n 0 ∷ t) (top_first_set es i v n (omega arith)))
+pile_push : (xs : List ℕ) (x : ℕ) → reverse (xs ++ x ∷ []) ≡ x ∷ reverse xs
+pile_push xs x = reverse-append xs (x ∷ [])
 
-pub top_first_push : (es : List ℕ) (v n : ℕ) → n < length es → top_first (set es n v) (n + 1) ≡ v ∷ top_first es n
-top_first_push es v n h =
-    let e : n + 1 ≡ suc n = omega arith in
-    rw (e, get_or-set_same es n v 0 h) (ap (λ t. v ∷ t) (top_first_set es n v n (omega arith)))
+pub pile_top : (xs : List ℕ) → 0 < length (reverse xs) → reverse xs ≡ get_or xs (length xs - 1) 0 ∷ reverse (take (length xs - 1) xs)
+pile_top xs h =
+    let long : 0 < length xs = omega (arith, length-reverse xs) in
+    let n : suc (length xs - 1) ≡ length xs = omega arith in
+    let whole : xs ≡ take (length xs - 1) xs ++ get_or xs (length xs - 1) 0 ∷ [] =
+    sym (take_all (length xs) xs (omega arith)) ∙ ap (λ (k : ℕ). take k xs) (sym n) ∙ take-suc xs (length xs - 1) 0 (omega arith) in
+    ap reverse whole ∙ pile_push (take (length xs - 1) xs) (get_or xs (length xs - 1) 0)
 
--- a zero on top is taken off
-pub stripped_zero : (es : List ℕ) (n : ℕ) → 0 < n → get_or es (n - 1) 0 ≡ 0 → stripped (top_first es n) ≡ stripped (top_first es (n - 1))
-unfolding stripped
-stripped_zero es n h z = rw (top_first_pred es n h, z)
+pub below_pile : (xs : List ℕ) → 0 < length (reverse xs) → below_top (reverse xs) ≡ reverse (take (length xs - 1) xs)
+below_pile xs h = ap below_top (pile_top xs h)
 
-pub stripped_cons : (e : ℕ) (s : List ℕ) → 0 < e → stripped (e ∷ s) ≡ e ∷ s
+-- another top
+pile_set : (xs : List ℕ) (v : ℕ) → 0 < length (reverse xs) → reverse (set xs (length xs - 1) v) ≡ v ∷ below_top (reverse xs)
+pile_set xs v h =
+    let long : 0 < length xs = omega (arith, length-reverse xs) in
+    let n : suc (length xs - 1) ≡ length xs = omega arith in
+    let whole : set xs (length xs - 1) v ≡ take (length xs - 1) xs ++ v ∷ [] =
+    sym (take_all (length xs) (set xs (length xs - 1) v) (omega (arith, length-set xs (length xs - 1) v)))
+    ∙ ap (λ (k : ℕ). take k (set xs (length xs - 1) v)) (sym n) ∙ take-suc-set xs (length xs - 1) v (omega arith) in
+    ap reverse whole ∙ pile_push (take (length xs - 1) xs) v ∙ ap (λ (s : List ℕ). v ∷ s) (sym (below_pile xs h))
+
+-- another top, written through the slice of the entries
+pub pile_written : (xs ys : List ℕ) (i v : ℕ) → ys ≡ xs → i ≡ length xs - 1 → 0 < length (reverse xs) →
+    reverse (refill (length xs) xs (set ys i v)) ≡ v ∷ below_top (reverse xs)
+pile_written xs ys i v same at h =
+    let ws : List ℕ = set ys i v in
+    let whole : take (length xs) (ws ++ drop (length ws) xs) ≡ ws = take_at ws (drop (length ws) xs) (length xs) (length-set ys i v ∙ ap length same) in
+    ap reverse (whole ∙ (λ k. set (same k) (at k) v)) ∙ pile_set xs v h
+
+stripped_cons : (e : ℕ) (s : List ℕ) → 0 < e → stripped (e ∷ s) ≡ e ∷ s
 unfolding stripped
 stripped_cons zero s h = absurd (omega arith)
 stripped_cons (suc e) s h = refl
 
 -- a stack whose top is no zero stays
-pub stripped_live : (es : List ℕ) (n : ℕ) → (get_or es (n - 1) 0 ≡ 0 → ⊥) → top_first es n ≡ stripped (top_first es n)
+pub stripped_live : (s below : List ℕ) (top : ℕ) → s ≡ top ∷ below → (top ≡ 0 → ⊥) → s ≡ stripped s
+stripped_live s below top e l = e ∙ sym (stripped_cons top below (omega arith)) ∙ ap stripped (sym e)
+
+-- a zero on top is taken off
+pub stripped_zero : (s : List ℕ) (top : ℕ) → s ≡ top ∷ below_top s → top ≡ 0 → stripped (below_top s) ≡ stripped s
 unfolding stripped
-stripped_live es zero l = refl
-stripped_live es (suc n) l =
-    let e : suc n - 1 ≡ n = omega arith in
-    let ne = rw e at l in
-    sym (stripped_cons (get_or es n 0) (top_first es n) (omega (arith, ne)))
+stripped_zero s top e z = sym (ap stripped (e ∙ ap (λ (k : ℕ). k ∷ below_top s) z))
 
 -- nor does an empty one
-pub stripped_empty : (es : List ℕ) (n : ℕ) → n ≤ 0 → top_first es n ≡ stripped (top_first es n)
+pub stripped_empty : (s : List ℕ) → is_empty s ≡ true → s ≡ stripped s
 unfolding stripped
-stripped_empty es zero h = refl
-stripped_empty es (suc n) h = absurd (omega arith)
+stripped_empty [] e = refl
+stripped_empty (x ∷ s) e = let z : ◌≡◌ {A = Bool} false true = e in cc
 
--- another top
-pub top_first_replace : (es : List ℕ) (v n : ℕ) → 0 < n → n ≤ length es → top_first (set es (n - 1) v) n ≡ v ∷ top_first es (n - 1)
-top_first_replace es v n p h =
-    let k : n - 1 < length es = omega arith in
-    let e : n ≡ n - 1 + 1 = omega arith in
-    ap (top_first (set es (n - 1) v)) e ∙ top_first_push es v (n - 1) k
-
--- another top, and one more above it
-pub top_first_over : (es : List ℕ) (v w n : ℕ) → 0 < n → n < length es → 0 < w → top_first (set (set es (n - 1) v) n w) (n + 1) ≡ stripped (w ∷ (v ∷ top_first es (n - 1)))
-unfolding stripped
-top_first_over es v w n p h l =
-    let k : n < length (set es (n - 1) v) = rw (length-set es (n - 1) v) h in
-    top_first_push (set es (n - 1) v) w n k ∙ ap (λ t. w ∷ t) (top_first_replace es v n p (omega arith))
-    ∙ sym (stripped_cons w (v ∷ top_first es (n - 1)) l)
+-- one more on top, which is no zero
+pub pile_over : (new xs s : List ℕ) (w : ℕ) → new ≡ xs ++ w ∷ [] → reverse xs ≡ s → 0 < w → reverse new ≡ stripped (w ∷ s)
+pile_over new xs s w e below l = ap reverse e ∙ pile_push xs w ∙ ap (λ (t : List ℕ). w ∷ t) below ∙ sym (stripped_cons w s l)
 
 -- a zero put on top is taken off
 pub stripped_none : (w : ℕ) (s : List ℕ) → w ≡ 0 → stripped s ≡ stripped (w ∷ s)
 unfolding stripped
 stripped_none w s e = rw e
-
-pub below_top_first : (es : List ℕ) (n : ℕ) → below_top (top_first es n) ≡ top_first es (n - 1)
-below_top_first es zero = refl
-below_top_first es (suc n) = let e : suc n - 1 ≡ n = omega arith in rw e
-
--- a stack that is not empty has some depth
-pub depth_positive : (es : List ℕ) (n : ℕ) → 0 < length (top_first es n) → 0 < n
-depth_positive es zero h = h
-depth_positive es (suc n) h = omega arith
-
-pub depth_below : (es : List ℕ) (n m : ℕ) → length (top_first es n) < m → n < m
-depth_below es n m h = omega (arith, length_top_first es n)
-
-pub top_then_below : (es : List ℕ) (n : ℕ) → 0 < length (top_first es n) → top_first es n ≡ get_or es (n - 1) 0 ∷ below_top (top_first es n)
-top_then_below es n h = rw (below_top_first es n) (top_first_pred es n (depth_positive es n h))
 
 pub stripped_twice : (s : List ℕ) → stripped (stripped s) ≡ stripped s
 unfolding stripped
@@ -100,12 +93,3 @@ pub clean_top : (n : ℕ) (s : List ℕ) → stripped (n ∷ s) ≡ n ∷ s → 
 unfolding stripped
 clean_top zero s h = absurd (omega (arith, length_stripped s, ap length h))
 clean_top (suc n) s h = omega arith
-
--- a stack that has moved, by equal parts
-pub moved_by : (st old new : List ℕ) (w v w' v' : ℕ) → st ≡ stripped (w ∷ (v ∷ below_top old)) → old ≡ new → w ≡ w' → v ≡ v'
-    → st ≡ stripped (w' ∷ (v' ∷ below_top new))
-moved_by st old new w v w' v' a b c d = cc
-
--- it has no zero on top
-pub moved_clean : (st old : List ℕ) (w v : ℕ) → st ≡ stripped (w ∷ (v ∷ below_top old)) → stripped st ≡ st
-moved_clean st old w v a = ap stripped a ∙ stripped_twice (w ∷ (v ∷ below_top old)) ∙ sym a

@@ -1,6 +1,7 @@
 // A session.
 ghost use Rattle.std.specs.Prelude.{◌≡◌, true};
 ghost use Rattle.model.specs.Machine.{stripped};
+ghost use Rattle.session.specs.Memories.{records_in};
 ghost use Rattle.session.specs.Stacks.{pile};
 ghost use Rattle.session.specs.Piles.{piled};
 
@@ -14,7 +15,7 @@ pub struct Session<O: LabelOrder, B> {
     memory: Memory<O, B>,
     stack: Stack,
     started: bool,
-    ghost climbs: { piled memory.program.record_count (pile stack) ≡ true },
+    ghost climbs: { piled (records_in memory.program) (pile stack) ≡ true },
     ghost clean: { stripped (pile stack) ≡ pile stack },
 }
 

@@ -5,6 +5,7 @@ ghost use Rattle.model.specs.Machine.{apply, mux, holds};
 use sheet::Op;
 
 // a op b, modulo 2^32.
+#[tactic(auto, unfolding(model::specs::Machine::apply))]
 pub(crate) fn apply(op: Op, a: u32, b: u32) -> u32
     ensures { result ≡ apply op a b }
 {
@@ -21,6 +22,7 @@ pub(crate) fn apply(op: Op, a: u32, b: u32) -> u32
 }
 
 // b where a is 0, else c.
+#[tactic(auto, unfolding(model::specs::Machine::mux))]
 pub(crate) fn mux(a: u32, b: u32, c: u32) -> u32
     ensures { result ≡ mux a b c }
 {
@@ -28,6 +30,7 @@ pub(crate) fn mux(a: u32, b: u32, c: u32) -> u32
 }
 
 // A guard is true at exactly 1.
+#[tactic(auto, unfolding(model::specs::Machine::holds))]
 pub(crate) fn holds(a: u32) -> bool
     ensures { result ≡ holds a }
 {

@@ -14,7 +14,7 @@ use Rattle.sheet.specs.Exact.{WithinLimits, Holds, ReadsExactly, LaysExactly}
 use Rattle.sheet.proofs.Decoding.{Bytes}
 use Rattle.sheet.proofs.ReadsBack.{reads_back}
 use Rattle.sheet.proofs.LaidOut.{laid_out}
-use Rattle.sheet.proofs.TableChecks.{counted, layout_fits}
+use Rattle.sheet.proofs.TableChecks.{from_limits, counted, layout_fits}
 
 -- lists that agree at each place are equal
 same_list : {X : Type 0} (xs ys : List X) → ((k : ℕ) → slice_get xs k ≡ slice_get ys k) → xs ≡ ys
@@ -55,7 +55,7 @@ module _ (vs : List Variable) (rs : List Record) (before : List ℕ) (r : Result
     (is : r ≡ answer (layout_refusal vs rs (length before)) (length (sheet_bytes vs rs))) (left : after ≡ laid_over vs rs before) where
   goes : WithinLimits vs rs → length (sheet_bytes vs rs) ≤ length before → layout_refusal vs rs (length before) ≡ None
   goes fit room =
-      layout_fits vs rs (length before) (counted vs rs fit.some_variable fit.few_variables fit.some_record fit.few_records ∙ (reads_back vs rs fit).0) room
+      layout_fits vs rs (length before) (counted vs rs (from_limits _ _ fit.some_variable fit.few_variables fit.some_record fit.few_records) ∙ (reads_back vs rs fit).0) room
 
   pub lays_exactly : LaysExactly vs rs before r after
   lays_exactly = record {

@@ -1,7 +1,7 @@
 -- A byte string that is not refused is the sheet of some tables. Assumes nothing.
-use Rattle.std.proofs.Common.{◌≡◌, ℕ, zero, suc, ◌+◌, ◌-◌, ◌*◌, ◌/◌, ◌%◌, ◌<◌, ◌≤◌, List, [], ◌∷◌, ◌++◌, length, take, drop, None, sym, ap, ◌∙◌, subst, ⊎_elim, arith}
+use Rattle.std.proofs.Common.{◌≡◌, ℕ, zero, suc, ◌+◌, ◌*◌, ◌/◌, ◌%◌, ◌<◌, ◌≤◌, List, [], ◌∷◌, ◌++◌, length, take, drop, None, sym, ap, ◌∙◌, subst, ⊎_elim, arith}
 use Rattle.std.specs.List.{flat_map, AllByRecursion}
-use Rattle.std.proofs.lemmas.List.{drop-drop, drop-take, take-take, take_all, get_or-take, get_or-drop, get_or_past, length-take-le, length-take, length-drop, take-append-drop}
+use Rattle.std.proofs.lemmas.List.{drop-drop, take_all, get_or-take, get_or-drop, get_or_past, length-take-le, length-take, length-drop, take-append-drop}
 use Rattle.std.proofs.lemmas.List.FromFn.{fill_by_all}
 use Rattle.std.proofs.lemmas.Bool.{cases_lt}
 use Rattle.sheet.specs.declared.tables.Variable.{Variable}
@@ -10,11 +10,11 @@ use Rattle.sheet.specs.Format.{sheet_bytes, variable_bytes, record_bytes, byte, 
 use Rattle.sheet.specs.Reading.{header_refusal, variable_refusal, variables_refusal, record_refusal, records_refusal, sheet_refusal, variable_count_of, record_count_of, variable_part, record_part, variable_place, record_place, cells_below, part}
 use Rattle.sheet.specs.Exact.{VariableFits, RecordFits, total_cells, WithinLimits}
 use Rattle.sheet.proofs.Coding.{length_variable, length_record}
-use Rattle.sheet.proofs.Chunks.{pieces}
+use Rattle.sheet.proofs.Chunks.{pieces, cut, inner}
 use Rattle.sheet.proofs.Decoding.{Bytes, variable_from, record_from, word16_low, word16_high, variable_few}
 use Rattle.refusal.proofs.First.{both_none, none_first}
 use Rattle.sheet.proofs.Header.{Header, header}
-use Rattle.sheet.proofs.ReadsBack.{cut, cells_so_far}
+use Rattle.sheet.proofs.ReadsBack.{cells_so_far}
 
 -- a part of bytes is of bytes
 part_fits : (bs : List ℕ) (p n : ℕ) → Bytes bs → Bytes (part bs p n)
@@ -29,12 +29,6 @@ part_fits bs p n fits i =
 
 part_long : (bs : List ℕ) (p n : ℕ) → p + n ≤ length bs → length (part bs p n) ≡ n
 part_long bs p n h = ap length (cut bs p n) ∙ simp (length-take, length-drop) (omega arith)
-
--- a piece that lies in the first j elements
-inner : (l : List ℕ) (n m j : ℕ) → m + n ≤ j → take n (drop m (take j l)) ≡ take n (drop m l)
-inner l n m j h =
-    let e : m + (j - m) ≡ j = omega arith in
-    ap (λ i. take n (drop m (take i l))) (sym e) ∙ ap (take n) (drop-take m (j - m) l) ∙ take-take n (j - m) (drop m l) (omega arith)
 
 module _ (bs : List ℕ) (fits : Bytes bs) (ok : sheet_refusal bs ≡ None) where
   v : ℕ

@@ -1,6 +1,4 @@
-pub mod Bytes
 pub mod Header
-pub mod Whole
 pub mod Validity
 pub mod Entries
 pub mod Coding
@@ -8,9 +6,6 @@ pub mod Chunks
 pub mod ReadsBack
 pub mod Decoding
 pub mod LaidOut
-pub mod Long
-pub mod Parts
 pub mod Rows
-pub mod Sheets
 pub mod TableChecks
 pub mod Exactness

@@ -10,15 +10,12 @@ use Rattle.sheet.specs.declared.tables.Variable.{Variable}
 use Rattle.sheet.specs.declared.tables.Record.{Record}
 use Rattle.sheet.specs.Tables.{cells}
 use Rattle.sheet.specs.Format.{sheet_bytes, variable_bytes, record_bytes, variable_of, record_of, word16}
-use Rattle.sheet.specs.Reading.{header_refusal, variable_refusal, variables_refusal, record_refusal, records_refusal, sheet_refusal, record_count_of, variable_part, record_part, variable_place, record_place, cells_below, part}
+use Rattle.sheet.specs.Reading.{header_refusal, variable_refusal, variables_refusal, record_refusal, records_refusal, sheet_refusal, record_count_of, variable_part, record_part, variable_place, record_place, cells_below}
 use Rattle.sheet.specs.Exact.{VariableFits, RecordFits, total_cells, WithinLimits, Holds}
 use Rattle.sheet.proofs.Coding.{le16_back, variable_back, record_back, variable_passes, record_passes, variable_cells, length_variable, length_record}
-use Rattle.sheet.proofs.Chunks.{length_joined, piece}
+use Rattle.sheet.proofs.Chunks.{length_joined, piece, cut}
 use Rattle.sheet.proofs.Entries.{variable_here, variable_past, record_here, record_past}
 use Rattle.refusal.proofs.First.{first_none}
-
-pub cut : (bs : List ℕ) (p n : ℕ) → part bs p n ≡ take n (drop p bs)
-cut bs p n = let e : p + n - p ≡ n = omega arith in ap (λ m. take m (drop p bs)) e
 
 all_at : {X : Type 0} (P : X → Type 0) (xs : List X) → AllByRecursion P xs → (k : ℕ) (d : X) → k < length xs → P (get_or xs k d)
 all_at P [] h k d l = absurd (omega arith)

@@ -33,13 +33,16 @@ sheet_length n m = record_place n m
 
 -- Refusals
 
+-- 1 to 64 variables, 1 to 512 records
+abbrev pub counts_refusal : ℕ → ℕ → Option SheetFault
+counts_refusal n m = option_or (expect (within 1 64 n) (VariableCount 1)) (expect (within 1 512 m) (RecordCount 2))
+
 unfoldable pub header_refusal : List ℕ → Option SheetFault
 header_refusal bs =
     option_or (expect (nat_le 4 (length bs)) (Truncated (length bs)))
     (option_or (expect (byte bs 0 == 1) (Version 0))
-    (option_or (expect (within 1 64 (variable_count_of bs)) (VariableCount 1))
-    (option_or (expect (within 1 512 (record_count_of bs)) (RecordCount 2))
-    (expect (length bs == sheet_length (variable_count_of bs) (record_count_of bs)) (Length (length bs))))))
+    (option_or (counts_refusal (variable_count_of bs) (record_count_of bs))
+    (expect (length bs == sheet_length (variable_count_of bs) (record_count_of bs)) (Length (length bs)))))
 
 -- a number has length 0, an array 1 to 4,096
 abbrev pub length_fits : ℕ → ℕ → Bool

@@ -1,11 +1,13 @@
 -- What the entries of the two tables stand for. Assumes nothing.
-use Rattle.std.specs.Prelude.{ℕ, cond, Some, None, Option, ◌==◌}
+use Rattle.std.specs.Prelude.{ℕ, cond, Some, None, Option, Result, ◌==◌}
+use Rattle.std.specs.Option.{ok_or}
 use Rattle.sheet.specs.declared.tables.Kind.{Kind}
 use Rattle.sheet.specs.declared.tables.Kind.TheVariants.{Number, Array}
 use Rattle.sheet.specs.declared.tables.Form.{Form}
 use Rattle.sheet.specs.declared.tables.Form.TheVariants.{Skip, Copy, Constant, Binary, Fetch, Mux, Store, If, While, Declass, Oram}
 use Rattle.sheet.specs.declared.tables.Op.{Op}
 use Rattle.sheet.specs.declared.tables.Op.TheVariants.{Sum, Difference, Product, Equal, Less, And, Or, Xor}
+use Rattle.sheet.specs.declared.tables.UnknownOp.{UnknownOp}
 
 -- the cells that a variable takes in the bank
 abbrev pub cells : Kind → ℕ
@@ -42,3 +44,7 @@ abbrev pub operator : ℕ → Option Op
 operator n =
     cond (n == 1) (Some Sum) (cond (n == 2) (Some Difference) (cond (n == 3) (Some Product) (cond (n == 4) (Some Equal)
     (cond (n == 5) (Some Less) (cond (n == 6) (Some And) (cond (n == 7) (Some Or) (cond (n == 8) (Some Xor) None)))))))
+
+-- the same, or the byte that stands for none
+abbrev pub operator_of : ℕ → Result Op UnknownOp
+operator_of n = ok_or (operator n) (record { 0 = n })

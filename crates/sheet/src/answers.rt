@@ -7,7 +7,7 @@ ghost use Rattle.sheet.specs.Exact.{ReadsExactly};
 
 use crate::codec::{record_of, variable_of};
 use crate::faults::SheetFault;
-use crate::reading::check_sheet;
+use crate::reading::{check_sheet, record_place};
 use crate::sheet::ReadSheet;
 use crate::tables::{Record, Variable};
 
@@ -30,6 +30,7 @@ impl<'a> ReadSheet<'a> {
         self.take_over(bytes)
     }
 
+    #[tactic(auto, unfolding(crate::specs::Valid::valid))]
     fn take_over(&mut self, bytes: &'a [u8]) -> Result<(), SheetFault>
         ensures answers { result ≡ answer (sheet_refusal bytes.now) tt }
         ensures after { self.new.bytes.now ≡ read self.old.bytes.now bytes.now }
@@ -54,6 +55,7 @@ impl<'a> ReadSheet<'a> {
     }
 
     // The variable numbered k, from 0.
+    #[tactic(auto, using(std::proofs::lemmas::Bool::Decides::nat_tests), unfolding(crate::specs::Reading::variable_at))]
     pub fn variable(&self, k: usize) -> Option<Variable>
         ensures { result ≡ variable_at self.now.bytes.now k }
     {
@@ -65,13 +67,14 @@ impl<'a> ReadSheet<'a> {
     }
 
     // The record numbered k, from 1.
+    #[tactic(auto, using(std::proofs::lemmas::Bool::Decides::nat_tests), unfolding(crate::specs::Reading::record_at))]
     pub fn record(&self, k: usize) -> Option<Record>
         ensures { result ≡ record_at self.now.bytes.now k }
     {
-        if k < 1 || k > self.records() {
+        if !(1..=self.records()).contains(&k) {
             return None;
         }
-        let p = 4 + 4 * self.variables() + 12 * (k - 1);
+        let p = record_place(self.variables(), k - 1);
         record_of(&self.bytes[p..p + 12])
     }
 }

@@ -14,4 +14,4 @@ mod writing;
 pub use faults::SheetFault;
 pub use laying::lay_out;
 pub use sheet::ReadSheet;
-pub use tables::{Form, Kind, Op, Record, Variable};
+pub use tables::{Form, Kind, Op, Record, UnknownOp, Variable};

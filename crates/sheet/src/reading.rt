@@ -1,14 +1,36 @@
 // The checks of a byte string that is to be a sheet, in the order of their numbers.
-ghost use Rattle.std.specs.Prelude.{◌≡◌, ◌+◌, ◌*◌, ◌^◌, ◌<◌, ◌≤◌, length};
-ghost use Rattle.sheet.specs.Format.{word16};
+ghost use Rattle.std.specs.Prelude.{◌≡◌, ℕ, ◌+◌, ◌*◌, ◌^◌, ◌<◌, ◌≤◌, ◌||◌, ◌==◌, true, false, length, slice_index, MatchOption};
+ghost use Rattle.sheet.specs.Format.{word16, used};
 ghost use Rattle.refusal.specs.Answers.{answer};
-ghost use Rattle.sheet.specs.Reading.{header_refusal, variable_refusal, variables_refusal, record_refusal, records_refusal, sheet_refusal, variable_place, record_place, variable_count_of, record_count_of};
+ghost use Rattle.sheet.specs.Reading.{counts_refusal, header_refusal, variable_refusal, variables_refusal, record_refusal, records_refusal, sheet_refusal, variable_place, record_place, variable_count_of, record_count_of};
 
 use crate::codec::used;
 use crate::faults::SheetFault;
 use crate::tables::Op;
 
+// Where the record numbered k + 1 begins, behind so many variables.
+pub(crate) fn record_place(variables: usize, k: usize) -> usize
+    requires { (variables ≤ 64) × (k ≤ 512) }
+    ensures { result ≡ record_place variables k }
+{
+    4 + 4 * variables + 12 * k
+}
+
+// Whether there are so many variables and records in a sheet.
+pub(crate) fn check_counts(variables: usize, records: usize) -> Result<(), SheetFault>
+    ensures { result ≡ answer (counts_refusal variables records) tt }
+{
+    if !(1..=64).contains(&variables) {
+        return Err(SheetFault::VariableCount(1));
+    }
+    if !(1..=512).contains(&records) {
+        return Err(SheetFault::RecordCount(2));
+    }
+    Ok(())
+}
+
 // The header: how many variables and records there are.
+#[tactic(auto, using(std::proofs::lemmas::Bool::Decides::nat_tests), unfolding(crate::specs::Reading::header_refusal))]
 fn check_header(bytes: &[u8]) -> Result<(usize, usize), SheetFault>
     ensures { result ≡ answer (header_refusal bytes.now) (variable_count_of bytes.now, record_count_of bytes.now) }
 {
@@ -20,35 +42,25 @@ fn check_header(bytes: &[u8]) -> Result<(usize, usize), SheetFault>
     if version != 1 {
         return Err(SheetFault::Version(0));
     }
-    if variables < 1 || variables > 64 {
-        return Err(SheetFault::VariableCount(1));
-    }
-    if records < 1 || records > 512 {
-        return Err(SheetFault::RecordCount(2));
-    }
-    if n != 4 + 4 * variables + 12 * records {
+    check_counts(variables, records)?;
+    if n != record_place(variables, records) {
         return Err(SheetFault::Length(n));
     }
     Ok((variables, records))
 }
 
 // One variable, whose bytes begin at p, after others that take `before` cells: the cells with its own.
-pub(crate) fn check_variable(part: &[u8], p: usize, before: usize) -> Result<usize, SheetFault>
-    requires fits { (length part.now ≡ 4) × ((p < 2 ^ 32) × (before ≤ 16384)) }
-    ensures { result ≡ answer (variable_refusal p before part.now) (before + word16 part.now 2) }
+#[tactic(auto, using(std::proofs::lemmas::Bool::Decides::nat_tests), unfolding(crate::specs::Reading::variable_refusal))]
+pub(crate) fn check_variable(row: &[u8; 4], p: usize, before: usize) -> Result<usize, SheetFault>
+    requires fits { (p < 2 ^ 32) × (before ≤ 16384) }
+    ensures { result ≡ answer (variable_refusal p before row.now) (before + word16 row.now 2) }
 {
-    let kind = part[0];
-    let n = u16::from_le_bytes([part[2], part[3]]);
-    if kind > 1 {
-        return Err(SheetFault::Kind(p));
-    }
-    let fits = if kind == 0 {
-        n == 0
-    } else {
-        n >= 1 && n <= 4096
-    };
-    if !fits {
-        return Err(SheetFault::VariableLength(p + 2));
+    let [kind, _, n0, n1] = *row;
+    let n = u16::from_le_bytes([n0, n1]);
+    match (kind, n) {
+        (0, 0) | (1, 1..=4096) => (),
+        (0 | 1, _) => return Err(SheetFault::VariableLength(p + 2)),
+        _ => return Err(SheetFault::Kind(p)),
     }
     let total = before + n as usize;
     if total > 16384 {
@@ -61,29 +73,35 @@ fn check_variables(bytes: &[u8], count: usize) -> Result<(), SheetFault>
     requires fits { (count ≤ 64) × (variable_place count ≤ length bytes.now) }
     ensures { result ≡ answer (variables_refusal bytes.now count) tt }
 {
+    let table = &bytes[4..4 + 4 * count];
     let mut total = 0;
-    for k in 0..count {
-        let p = 4 + 4 * k;
-        total = check_variable(&bytes[p..p + 4], p, total)?;
+    for (k, row) in table.as_chunks::<4>().0.iter().enumerate() {
+        total = check_variable(row, 4 + 4 * k, total)?;
     }
     Ok(())
 }
 
-// One record, whose bytes begin at p.
-fn check_record(part: &[u8], p: usize) -> Result<(), SheetFault>
-    requires fits { (length part.now ≡ 12) × (p < 2 ^ 32) }
-    ensures { result ≡ answer (record_refusal p part.now) tt }
+// The first byte that is not 0 though the form leaves it unused.
+fn stray(form: u8, part: &[u8]) -> Option<usize>
+    ensures { MatchOption result ((k : ℕ) → k < length part.now → (used form k || slice_index part.now k == 0) ≡ true) (λ i. (i < length part.now) × ((used form i || slice_index part.now i == 0) ≡ false) × ((k : ℕ) → k < i → (used form k || slice_index part.now k == 0) ≡ true)) }
 {
-    let form = part[0];
+    let mut bytes = part.iter().enumerate();
+    bytes.position(|(i, byte)| *byte != 0 && !used(form, i))
+}
+
+// One record, whose bytes begin at p.
+fn check_record(row: &[u8; 12], p: usize) -> Result<(), SheetFault>
+    requires fits { p < 2 ^ 32 }
+    ensures { result ≡ answer (record_refusal p row.now) tt }
+{
+    let form = row[0];
     if form > 10 {
         return Err(SheetFault::Form(p));
     }
-    for i in 0..12 {
-        if !used(form, i) && part[i] != 0 {
-            return Err(SheetFault::Unused(p + i));
-        }
+    if let Some(i) = stray(form, row) {
+        return Err(SheetFault::Unused(p + i));
     }
-    if form == 3 && Op::from_code(part[5]).is_none() {
+    if form == 3 && Op::try_from(row[5]).is_err() {
         return Err(SheetFault::Operator(p + 5));
     }
     Ok(())
@@ -93,14 +111,15 @@ fn check_records(bytes: &[u8], variables: usize, count: usize) -> Result<(), She
     requires fits { (variables ≤ 64) × ((count ≤ 512) × (record_place variables count ≤ length bytes.now)) }
     ensures { result ≡ answer (records_refusal bytes.now variables count) tt }
 {
-    for k in 0..count {
-        let p = 4 + 4 * variables + 12 * k;
-        check_record(&bytes[p..p + 12], p)?;
+    let table = &bytes[4 + 4 * variables..record_place(variables, count)];
+    for (k, row) in table.as_chunks::<12>().0.iter().enumerate() {
+        check_record(row, record_place(variables, k))?;
     }
     Ok(())
 }
 
 // Whether the bytes are a sheet.
+#[tactic(auto, unfolding(crate::specs::Reading::sheet_refusal))]
 pub(crate) fn check_sheet(bytes: &[u8]) -> Result<(), SheetFault>
     ensures { result ≡ answer (sheet_refusal bytes.now) tt }
 {

@@ -1,6 +1,6 @@
 // The two tables of a program: variables and records.
-ghost use Rattle.std.specs.Prelude.{◌≡◌, ◌-◌, ◌<◌, Some, None};
-ghost use Rattle.sheet.specs.Tables.{cells, form_code, operator_code, operator};
+ghost use Rattle.std.specs.Prelude.{◌≡◌};
+ghost use Rattle.sheet.specs.Tables.{cells, form_code, operator_code, operator_of};
 
 // A number, or an array of so many cells of the bank.
 #[derive(Clone, Copy, Default)]
@@ -19,15 +19,19 @@ pub struct Variable {
 // The operators of `x := a op b`, on 32 bits: sum, difference and product wrap, equal and less give 1 or 0.
 #[derive(Clone, Copy)]
 pub enum Op {
-    Sum,
-    Difference,
-    Product,
-    Equal,
-    Less,
-    And,
-    Or,
-    Xor,
+    Sum = 1,
+    Difference = 2,
+    Product = 3,
+    Equal = 4,
+    Less = 5,
+    And = 6,
+    Or = 7,
+    Xor = 8,
 }
+
+// A byte that stands for no operator.
+#[derive(Clone, Copy, Debug, PartialEq, Eq)]
+pub struct UnknownOp(pub u8);
 
 // What a record does. Operands are numbers of variables, links numbers of records; link 0 ends a chain.
 #[derive(Clone, Copy, Default)]
@@ -98,36 +102,31 @@ impl Form {
     }
 }
 
-impl Op {
-    // The byte that stands for the operator.
-    pub fn code(self) -> u8
-        ensures { result ≡ operator_code self }
-    {
-        match self {
-            Op::Sum => 1,
-            Op::Difference => 2,
-            Op::Product => 3,
-            Op::Equal => 4,
-            Op::Less => 5,
-            Op::And => 6,
-            Op::Or => 7,
-            Op::Xor => 8,
-        }
-    }
+// The byte that stands for the operator.
+impl From<Op> for u8 {
+    ghost from_gives = { λ op code. code ≡ operator_code op };
 
-    pub fn from_code(code: u8) -> Option<Op>
-        ensures { result ≡ operator code }
-    {
+    fn from(op: Op) -> u8 {
+        op as u8
+    }
+}
+
+impl TryFrom<u8> for Op {
+    type Error = UnknownOp;
+
+    ghost try_from_gives = { λ code result. result ≡ operator_of code };
+
+    fn try_from(code: u8) -> Result<Op, UnknownOp> {
         match code {
-            1 => Some(Op::Sum),
-            2 => Some(Op::Difference),
-            3 => Some(Op::Product),
-            4 => Some(Op::Equal),
-            5 => Some(Op::Less),
-            6 => Some(Op::And),
-            7 => Some(Op::Or),
-            8 => Some(Op::Xor),
-            _ => None,
+            1 => Ok(Op::Sum),
+            2 => Ok(Op::Difference),
+            3 => Ok(Op::Product),
+            4 => Ok(Op::Equal),
+            5 => Ok(Op::Less),
+            6 => Ok(Op::And),
+            7 => Ok(Op::Or),
+            8 => Ok(Op::Xor),
+            _ => Err(UnknownOp(code)),
         }
     }
 }

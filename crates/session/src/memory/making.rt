@@ -16,14 +16,14 @@ fn first_cells<O: LabelOrder>(program: &Program<O>) -> [u32; 65]
 {
     let mut starts = [0; 65];
     let mut start = 0;
-    for v in 0..65u8 {
-        starts[v as usize] = start;
-        start += program.variable(v).kind.cells() as u32;
+    for (v, first) in starts.iter_mut().enumerate() {
+        *first = start;
+        start += program.variable(v as u8).kind.cells() as u32;
     }
     starts
 }
 
-// Sets the first n cells to 0, in rising order.
+// Sets the first n cells to 0, in rising order. A bank is reached by number alone, so the loop counts.
 fn clear<B: Bank>(bank: &mut B, n: usize)
     ensures { B.cells bank.new ≡ zeroed n (B.cells bank.old) }
 {

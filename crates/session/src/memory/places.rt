@@ -1,18 +1,18 @@
 // Places of variables: a number, or a cell of an array.
 ghost use Rattle.std.specs.Prelude.{◌≡◌, ◌+◌, ◌^◌, ◌<◌, ◌≤◌, true, length, nat_lt};
 ghost use Rattle.model.specs.Program.{IsVariable, length_of, base, cells_needed};
-ghost use Rattle.model.specs.Rules.{IsArray};
 ghost use Rattle.model.specs.Machine.{held, put, inside, fetched, stored, copied};
 ghost use Rattle.model.specs.Session.{has_place};
 ghost use Rattle.session.specs.Starts.{copied_cells};
-ghost use Rattle.session.specs.Memories.{tables_of, memory_of};
+ghost use Rattle.session.specs.Memories.{tables_of, memory_of, HasArray, Becomes};
 
 use crate::memory::Memory;
 use banks::Bank;
 use labels::LabelOrder;
 use sheet::Kind;
 
-// Copies n cells to another place, which the source does not run into.
+// Copies n cells to another place, which the source does not run into. A bank is reached by number alone, so the loop
+// counts.
 fn copy_cells<B: Bank>(bank: &mut B, source: usize, target: usize, n: usize)
     requires fits { (source + n < 2 ^ 64) × (target + n < 2 ^ 64) }
     requires apart { target < source + n → target ≤ source }
@@ -58,10 +58,9 @@ impl<O: LabelOrder, B: Bank> Memory<O, B> {
 
     // Array a at index i, or 0 outside it: one request to the bank.
     pub(crate) fn fetch(&mut self, a: u8, i: u32) -> u32
-        requires { (IsVariable (tables_of self.old) a) × (IsArray (tables_of self.old) a) }
+        requires { HasArray (tables_of self.old) a }
         ensures value { result ≡ fetched (tables_of self.old) (memory_of B.cells self.old) a i }
-        ensures memory { memory_of B.cells self.new ≡ memory_of B.cells self.old }
-        ensures program { self.new.program ≡ self.old.program }
+        ensures kept { Becomes B.cells (memory_of B.cells self.old) self.old self.new }
     {
         let cell = self.cell(a, i);
         self.bank.get(cell)
@@ -69,20 +68,18 @@ impl<O: LabelOrder, B: Bank> Memory<O, B> {
 
     // Sets array x at index i; outside it nothing changes: one request to the bank.
     pub(crate) fn store(&mut self, x: u8, i: u32, value: u32)
-        requires { (IsVariable (tables_of self.old) x) × (IsArray (tables_of self.old) x) }
-        ensures memory { memory_of B.cells self.new ≡ stored (tables_of self.old) (memory_of B.cells self.old) x i value }
-        ensures program { self.new.program ≡ self.old.program }
+        requires { HasArray (tables_of self.old) x }
+        ensures { Becomes B.cells (stored (tables_of self.old) (memory_of B.cells self.old) x i value) self.old self.new }
     {
         let cell = self.cell(x, i);
         self.bank.put(cell, value);
     }
+
     // Copies array a, of the same length, to array x: one put for each cell, in rising order.
     pub(crate) fn copy(&mut self, x: u8, a: u8)
-        requires variables { (IsVariable (tables_of self.old) x) × (IsVariable (tables_of self.old) a) }
-        requires arrays { (IsArray (tables_of self.old) x) × (IsArray (tables_of self.old) a) }
+        requires arrays { (HasArray (tables_of self.old) x) × (HasArray (tables_of self.old) a) }
         requires lengths { length_of (tables_of self.old).variables x ≡ length_of (tables_of self.old).variables a }
-        ensures memory { memory_of B.cells self.new ≡ copied (tables_of self.old) (memory_of B.cells self.old) x a (length_of (tables_of self.old).variables x) }
-        ensures program { self.new.program ≡ self.old.program }
+        ensures { Becomes B.cells (copied (tables_of self.old) (memory_of B.cells self.old) x a (length_of (tables_of self.old).variables x)) self.old self.new }
     {
         let source = self.starts[a as usize] as usize;
         let target = self.starts[x as usize] as usize;
@@ -94,8 +91,7 @@ impl<O: LabelOrder, B: Bank> Memory<O, B> {
     pub(crate) fn look(&mut self, v: u8, i: u32) -> u32
         requires { has_place (tables_of self.old) v i ≡ true }
         ensures value { result ≡ held (tables_of self.old) (memory_of B.cells self.old) v i }
-        ensures memory { memory_of B.cells self.new ≡ memory_of B.cells self.old }
-        ensures program { self.new.program ≡ self.old.program }
+        ensures kept { Becomes B.cells (memory_of B.cells self.old) self.old self.new }
     {
         match self.program.variable(v).kind {
             Kind::Number => self.number(v),
@@ -106,8 +102,7 @@ impl<O: LabelOrder, B: Bank> Memory<O, B> {
     // Sets variable v at index i.
     pub(crate) fn enter(&mut self, v: u8, i: u32, value: u32)
         requires { has_place (tables_of self.old) v i ≡ true }
-        ensures memory { memory_of B.cells self.new ≡ put (tables_of self.old) (memory_of B.cells self.old) v i value }
-        ensures program { self.new.program ≡ self.old.program }
+        ensures { Becomes B.cells (put (tables_of self.old) (memory_of B.cells self.old) v i value) self.old self.new }
     {
         match self.program.variable(v).kind {
             Kind::Number => self.set_number(v, value),

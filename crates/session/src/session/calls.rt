@@ -50,6 +50,37 @@ impl<O: LabelOrder, B: Bank> Session<O, B> {
         Ok(())
     }
 
+    // May the session be started?
+    #[tactic(auto, unfolding(model::specs::Session::fault, model::specs::Session::too_small))]
+    fn check_start(&self) -> Result<(), SessionFault>
+        ensures { result ≡ answer (refusal_of O.meaning B.cells start self.now) tt }
+    {
+        if self.memory.too_small() {
+            return Err(SessionFault::BankTooSmall);
+        }
+        if self.started {
+            return Err(SessionFault::Started);
+        }
+        Ok(())
+    }
+
+    // May it run, with room for so many entries?
+    #[tactic(auto, unfolding(model::specs::Session::fault))]
+    fn check_run(&self, room: usize) -> Result<(), SessionFault>
+        ensures { result ≡ answer (refusal_of O.meaning B.cells (run 0 room) self.now) tt }
+    {
+        if !self.started {
+            return Err(SessionFault::NotStarted);
+        }
+        if self.ended() {
+            return Err(SessionFault::Ended);
+        }
+        if room < MOST_ENTRIES {
+            return Err(SessionFault::TapeTooShort);
+        }
+        Ok(())
+    }
+
     // Sets a variable, before the start, for a party to which its label is open.
     pub fn enter(
         &mut self,
@@ -62,12 +93,7 @@ impl<O: LabelOrder, B: Bank> Session<O, B> {
         ensures state { state_of B.cells self.new ≡ (done O.meaning B.cells (enter party variable index value) self.old).state }
         ensures program { self.new.memory.program ≡ self.old.memory.program }
     {
-        if self.memory.too_small() {
-            return Err(SessionFault::BankTooSmall);
-        }
-        if self.started {
-            return Err(SessionFault::Started);
-        }
+        self.check_start()?;
         self.check_access(party, variable, index)?;
         self.memory.enter(variable, index, value);
         Ok(())
@@ -79,12 +105,7 @@ impl<O: LabelOrder, B: Bank> Session<O, B> {
         ensures state { state_of B.cells self.new ≡ (done O.meaning B.cells start self.old).state }
         ensures program { self.new.memory.program ≡ self.old.memory.program }
     {
-        if self.memory.too_small() {
-            return Err(SessionFault::BankTooSmall);
-        }
-        if self.started {
-            return Err(SessionFault::Started);
-        }
+        self.check_start()?;
         self.started = true;
         Ok(())
     }
@@ -102,24 +123,6 @@ impl<O: LabelOrder, B: Bank> Session<O, B> {
         Ok(self.memory.look(variable, index))
     }
 
-    // Runs, unless the session was not started, has ended, or the tape is too short for a step.
-    fn try_run(&mut self, steps: u64, tape: &mut [Entry]) -> Result<RunReport, SessionFault>
-        ensures answers { result ≡ answer (refusal_of O.meaning B.cells (run steps (length tape.old)) self.old) (reported (ran_of O.meaning B.cells steps (length tape.old) self.old)) }
-        ensures state { state_of B.cells self.new ≡ (done O.meaning B.cells (run steps (length tape.old)) self.old).state }
-        ensures tape { tape.new ≡ overwritten (done O.meaning B.cells (run steps (length tape.old)) self.old).tape tape.old }
-        ensures program { self.new.memory.program ≡ self.old.memory.program }
-    {
-        if !self.started {
-            return Err(SessionFault::NotStarted);
-        }
-        if self.ended() {
-            return Err(SessionFault::Ended);
-        }
-        if tape.len() < MOST_ENTRIES {
-            return Err(SessionFault::TapeTooShort);
-        }
-        Ok(self.run_steps(steps, tape))
-    }
     // Runs for at most so many steps, and writes what they write from the beginning of the tape on; the rest of the tape
     // stays. Before each step: the program has ended, else the steps are taken, else the tape is full.
     pub fn run(&mut self, steps: u64, tape: &mut [Entry]) -> Result<RunReport, SessionFault>
@@ -129,6 +132,7 @@ impl<O: LabelOrder, B: Bank> Session<O, B> {
         ensures program { self.new.memory.program ≡ self.old.memory.program }
         ensures pieces { InPieces (O.meaning (order_of self.old.memory)) (tables_of self.old.memory) (config_of B.cells self.old) steps (length tape.old) }
     {
-        self.try_run(steps, tape)
+        self.check_run(tape.len())?;
+        Ok(self.run_steps(steps, tape))
     }
 }

@@ -1,8 +1,8 @@
 // Runs.
-ghost use Rattle.std.specs.Prelude.{◌≡◌, length};
+ghost use Rattle.std.specs.Prelude.{◌≡◌, ◌<◌, ◌≤◌, false, length, IfSome, IfNone};
 ghost use Rattle.tape.specs.Log.{overwritten};
 ghost use Rattle.model.specs.Machine.{ended};
-ghost use Rattle.model.specs.Session.{steps};
+ghost use Rattle.model.specs.Session.{steps, stopped};
 ghost use Rattle.session.specs.Memories.{tables_of, order_of};
 ghost use Rattle.session.specs.Reports.{reported};
 ghost use Rattle.session.specs.States.{config_of};
@@ -19,10 +19,27 @@ pub(crate) const MOST_ENTRIES: usize = 6;
 
 impl<O: LabelOrder, B: Bank> Session<O, B> {
     // Is the stack empty?
+    #[tactic(auto, unfolding(model::specs::Machine::ended))]
     pub(crate) fn ended(&self) -> bool
         ensures { result ≡ ended (config_of B.cells self.now) }
     {
-        self.stack.height() == 0
+        self.stack.is_empty()
+    }
+
+    // Why no step is taken here, if none is: the run has ended, else no step is left, else there is no room for one.
+    fn stop(&self, left: u64, room: usize) -> Option<Stop>
+        ensures stopped { IfSome result (λ why. steps (O.meaning (order_of self.now.memory)) (tables_of self.now.memory) left room (config_of B.cells self.now) ≡ stopped why (config_of B.cells self.now)) }
+        ensures goes { IfNone result ((ended (config_of B.cells self.now) ≡ false) × (0 < left) × (6 ≤ room)) }
+    {
+        if self.ended() {
+            Some(Stop::Ended)
+        } else if left == 0 {
+            Some(Stop::Spent)
+        } else if room < MOST_ENTRIES {
+            Some(Stop::Full)
+        } else {
+            None
+        }
     }
 
     // Steps until the run has ended, as many steps were taken as are asked for, or the tape is full.
@@ -35,21 +52,16 @@ impl<O: LabelOrder, B: Bank> Session<O, B> {
     {
         let mut taken = 0;
         let mut at = 0;
-        while !self.ended() && taken < limit && tape.len() - at >= MOST_ENTRIES {
+        loop {
+            if let Some(stop) = self.stop(limit - taken, tape.len() - at) {
+                return RunReport {
+                    steps: taken,
+                    entries: at,
+                    stop,
+                };
+            }
             at = self.step(tape, at);
             taken += 1;
-        }
-        let stop = if self.ended() {
-            Stop::Ended
-        } else if taken == limit {
-            Stop::Spent
-        } else {
-            Stop::Full
-        };
-        RunReport {
-            steps: taken,
-            entries: at,
-            stop,
         }
     }
 }

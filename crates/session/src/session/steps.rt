@@ -7,9 +7,8 @@ ghost use Rattle.session.specs.Stacks.{pile};
 ghost use Rattle.session.specs.Piles.{moved};
 ghost use Rattle.session.specs.States.{config_of};
 
-use crate::acting::act;
-use crate::noting::{end_entry, note};
 use crate::session::Session;
+use crate::turn::Turn;
 use crate::values::holds;
 use banks::Bank;
 use labels::LabelOrder;
@@ -52,12 +51,16 @@ impl<O: LabelOrder, B: Bank> Session<O, B> {
         let n = self.stack.top();
         let taken = self.memory.program().record(n);
         let (place, above) = self.moved(n, taken.next, taken.form);
-        let next = act(&mut self.memory, n, taken.label, taken.form, tape, at);
         self.stack.advance(place, above);
-        if self.stack.height() > 0 {
-            return next;
-        }
-        let public = self.memory.program().order().public();
-        note(tape, next, end_entry(public))
+        let last = self.stack.is_empty();
+        let mut turn = Turn {
+            number: n,
+            label: taken.label,
+            memory: &mut self.memory,
+            tape,
+            at,
+        };
+        turn.take(taken.form, last);
+        turn.at
     }
 }

@@ -18,8 +18,8 @@ loop-k-preserved g c =
     let before = state_of g.B.Bank.cells c.loop-k.session in
     let after = state_of g.B.Bank.cells c.perform.new.session in
     let call = get_or c.args.calls.now c.loop-k.k none in
-    let now = subst (λ q. Plays two_party (contents q).tables call before after c.loop-k.tape c.perform.new.tape c.perform.result) inv.0
-    (record { answer = c.perform.ensures.answer; state = c.perform.ensures.state; tape = c.perform.ensures.tape }) in (
+    let now = subst (λ q. Plays two_party (contents q).tables call before after c.loop-k.tape c.perform.new.tape c.row.result) inv.0
+    (record { answer = c.row.ensures ∙ c.perform.ensures.answer; state = c.perform.ensures.state; tape = c.perform.ensures.tape }) in (
       c.perform.ensures.program ∙ inv.0,
       played_more two_party (tables_of me.memory) c.args.calls.now c.loop-k.k before c.loop-k.tape c.loop-k.answers _ none after _ _ (omega arith) now inv.1,
     )

@@ -9,22 +9,22 @@ use Rattle.session.proofs.Copying.{arrays_apart, copied_is}
 use Rattle.session.proofs.memory.Memory.copy.Goals as goal
 
 pub bounds-self-a : goal.bounds-self-a
-bounds-self-a g c = omega (arith, few_variables c.args.self.now.program, c.requires.variables.1)
+bounds-self-a g c = omega (arith, few_variables c.args.self.now.program, c.requires.arrays.1.0)
 
 pub bounds-self-x : goal.bounds-self-x
-bounds-self-x g c = omega (arith, few_variables c.args.self.now.program, c.requires.variables.0)
+bounds-self-x g c = omega (arith, few_variables c.args.self.now.program, c.requires.arrays.0.0)
 
 pub copy_cells-requires : goal.copy_cells-requires
 copy_cells-requires g c =
     let me = c.args.self.now in
     let p = tables_of me in
     let few = few_variables me.program in
-    let from = start_at p me.starts me.laid c.args.a (omega (arith, few, c.requires.variables.1)) in
-    let to = start_at p me.starts me.laid c.args.x (omega (arith, few, c.requires.variables.0)) in
+    let from = start_at p me.starts me.laid c.args.a (omega (arith, few, c.requires.arrays.1.0)) in
+    let to = start_at p me.starts me.laid c.args.x (omega (arith, few, c.requires.arrays.0.0)) in
     let size = c.cells-n.ensures ∙ ap (λ (x : Variable). cells x.kind) c.variable.ensures ∙ c.requires.lengths in
     record {
       fits = (omega arith, omega arith);
-      apart = λ h. omega (arith, from, to, arrays_apart p c.args.x c.args.a c.requires.variables.0 c.requires.variables.1 c.requires.arrays.0 c.requires.arrays.1 (omega (arith, h, from, to, size)));
+      apart = λ h. omega (arith, from, to, arrays_apart p c.args.x c.args.a c.requires.arrays.0.0 c.requires.arrays.1.0 c.requires.arrays.0.1 c.requires.arrays.1.1 (omega (arith, h, from, to, size)));
     }
 
 pub returns : goal.returns
@@ -32,13 +32,13 @@ returns g c =
     let me = c.args.self.now in
     let p = tables_of me in
     let few = few_variables me.program in
-    let from = start_at p me.starts me.laid c.args.a (omega (arith, few, c.requires.variables.1)) in
-    let to = start_at p me.starts me.laid c.args.x (omega (arith, few, c.requires.variables.0)) in
+    let from = start_at p me.starts me.laid c.args.a (omega (arith, few, c.requires.arrays.1.0)) in
+    let to = start_at p me.starts me.laid c.args.x (omega (arith, few, c.requires.arrays.0.0)) in
     let size = c.cells-n.ensures ∙ ap (λ (x : Variable). cells x.kind) c.variable.ensures in
     record {
       memory =
           ap (λ (row : List ℕ). record { numbers = take (length p.variables) me.numbers; cells = row })
           (c.copy_cells.ensures ∙ (λ i. copied_cells (from i) (to i) (size i) (g.B.Bank.cells me.bank)))
-          ∙ copied_is p c.args.x c.args.a c.requires.variables.0 c.requires.variables.1 c.requires.arrays.0 c.requires.arrays.1 (memory_of g.B.Bank.cells me) _;
+          ∙ copied_is p c.args.x c.args.a c.requires.arrays.0.0 c.requires.arrays.1.0 c.requires.arrays.0.1 c.requires.arrays.1.1 (memory_of g.B.Bank.cells me) _;
       program = refl;
     }

@@ -8,6 +8,5 @@ returns g c =
     let me = c.args.self.now in
     record {
       value = c.get.ensures.value ∙ fetched_cell (tables_of me) (memory_of g.B.Bank.cells me) c.args.a c.args.i c.cell-cell.result c.requires.1 c.cell-cell.ensures.inside c.cell-cell.ensures.outside;
-      memory = ap (λ row. record { numbers = take (length (tables_of me).variables) me.numbers; cells = row }) c.get.ensures.kept;
-      program = refl;
+      kept = record { memory = ap (λ row. record { numbers = take (length (tables_of me).variables) me.numbers; cells = row }) c.get.ensures.kept; program = refl };
     }

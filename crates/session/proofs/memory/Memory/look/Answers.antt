@@ -20,8 +20,7 @@ returns-in-Number g c =
     let k = ap (λ (t : Variable). t.kind) (sym c.variable.ensures) ∙ c.in-Number.is in
     record {
       value = c.number.ensures ∙ look_number (tables_of me) (memory_of g.B.Bank.cells me) c.args.v c.args.i c.requires k;
-      memory = refl;
-      program = refl;
+      kept = record { memory = refl; program = refl };
     }
 
 pub returns-in-Array : goal.returns-in-Array
@@ -29,6 +28,5 @@ returns-in-Array g c =
     let me = c.args.self.now in
     record {
       value = c.fetch.ensures.value ∙ look_array (tables_of me) (memory_of g.B.Bank.cells me) c.args.v c.args.i c.requires;
-      memory = c.fetch.ensures.memory;
-      program = c.fetch.ensures.program;
+      kept = c.fetch.ensures.kept;
     }

@@ -24,8 +24,8 @@ loop-v-preserved g c =
     let same = inv.0 in (
       omega (arith, inv.0, more, size),
       omega (arith, inv.1),
-      length-set c.loop-v.starts v c.loop-v.start ∙ inv.2,
-      λ k h. ap (λ (x : ℕ). get_or (set c.loop-v.starts v x) k 0) same ∙ fill_by_more (base p) c.loop-v.starts v 0 (omega (arith, inv.2)) inv.3 k h,
+      length-set c.loop-v.first-items v c.loop-v.start ∙ inv.2,
+      λ k h. ap (λ (x : ℕ). get_or (set c.loop-v.first-items v x) k 0) same ∙ fill_by_more (base p) c.loop-v.first-items v 0 (omega (arith, inv.2)) inv.3 k h,
     )
 
 pub returns : goal.returns
@@ -33,4 +33,4 @@ unfolding first_cells
 returns g c =
     let p = (contents c.args.program.now).tables in
     let inv = c.loop-v.invariant in
-    fill_by_all (base p) c.loop-v.starts 65 0 inv.2 (λ k h. inv.3 k (omega arith))
+    fill_by_all (base p) c.loop-v.first-items 65 0 inv.2 (λ k h. inv.3 k (omega arith))

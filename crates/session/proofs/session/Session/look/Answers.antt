@@ -48,6 +48,6 @@ returns g c =
     let e = look_access L p s c.args.party c.args.variable c.args.index None (sym c.if-too_small.ensures) (accepted _ _ _ c.in_ok-check_access.ensures).0 in
     record {
       answers = ap (λ (k : ℕ). answer {F = SessionFault} None k) c.look.ensures.value ∙ sym (ap (λ o. answer o (held p s.config.memory c.args.variable c.args.index)) e);
-      state = ap (λ (m : Memory). record { config = record { memory = m; stack = pile me.stack }; started = me.started }) c.look.ensures.memory ∙ look_state L p s c.args.party c.args.variable c.args.index;
-      program = c.look.ensures.program;
+      state = ap (λ (m : Memory). record { config = record { memory = m; stack = pile me.stack }; started = me.started }) c.look.ensures.kept.memory ∙ look_state L p s c.args.party c.args.variable c.args.index;
+      program = c.look.ensures.kept.program;
     }
