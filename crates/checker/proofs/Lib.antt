@@ -1,12 +1,12 @@
 pub mod Tests
 pub mod Walks
 pub mod Reaches
-pub mod Nested
+pub mod Firsts
 pub mod Surroundings
 pub mod Decided
 pub mod Deciding
 pub mod Exact
-pub mod Copying
 pub mod Joint
 pub mod Verdicts
 pub mod OnePlace
+pub mod Smallest

@@ -1,5 +1,5 @@
 -- What accept answers. Assumes nothing.
-use Rattle.std.specs.Prelude.{◌≡◌, ℕ, ◌+◌, List, map, length, Ok, Err, Option, Result}
+use Rattle.std.specs.Prelude.{◌≡◌, ℕ, ◌+◌, Bool, not, List, map, length, is_some, Ok, Err, Option, Result}
 use Rattle.std.specs.List.{range_with_len}
 use Rattle.std.specs.Option.{option_map, option_or, unwrap_or}
 use Rattle.refusal.specs.declared.Layer.TheVariants as Layer
@@ -41,6 +41,10 @@ sheet_program bs = program (sheet_variables bs) (sheet_records bs)
 -- the shape's refusals first, then the rules'
 unfoldable pub accept_refusal : Labels → Program → Option Refusal
 accept_refusal L p = option_or (option_map shape_refusal_of (shape_refusal L p)) (option_map rule_refusal_of (rules_refusal L p (length p.records)))
+
+-- no refusal
+abbrev pub is_accepted : Labels → Program → Bool
+is_accepted L p = not (is_some (accept_refusal L p))
 
 -- What an answer tells: accepted exactly when shape and rules are kept, then with secrecy; the places from which depth
 -- and surroundings are taken are those that the records stand at; and a refusal by a rule names a record of a

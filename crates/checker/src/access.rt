@@ -20,27 +20,27 @@ impl<O: LabelOrder> Program<O> {
         ensures count { result ≡ length (contents self.now).tables.variables }
         ensures few { result ≤ 64 }
     {
-        self.variables[..self.variable_count].len()
+        self.tables.variables.len()
     }
 
     pub fn record_count(&self) -> usize
         ensures count { result ≡ length (contents self.now).tables.records }
         ensures few { result ≤ 512 }
     {
-        self.records[..self.record_count].len()
+        self.tables.records.len()
     }
 
     // Variable v, or a number labelled 0 where there is none.
     pub fn variable(&self, v: u8) -> Variable
         ensures { result ≡ variable_at (contents self.now).tables.variables v }
     {
-        variable_at(&self.variables[..self.variable_count], v)
+        variable_at(&self.tables.variables, v)
     }
 
     // Record k, counted from 1, or a skip labelled 0 where there is none.
     pub fn record(&self, k: u16) -> Record
         ensures { result ≡ record_at (contents self.now).tables.records k }
     {
-        record_at(&self.records[..self.record_count], k as usize)
+        record_at(&self.tables.records, k as usize)
     }
 }

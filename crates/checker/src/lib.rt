@@ -3,9 +3,11 @@
 
 mod accepting;
 mod access;
+mod nested;
+mod nesting;
 mod program;
 mod shape;
-mod typing;
+mod tables;
 mod walk;
 
 pub use accepting::accept;

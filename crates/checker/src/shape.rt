@@ -1,43 +1,14 @@
 // The checks of the tables' shape, in the order of their numbers.
-ghost use Rattle.std.specs.Prelude.{◌≡◌, ℕ, ◌+◌, ◌-◌, ◌<◌, ◌≤◌, length, if◌then◌else◌, Some, nat_eq, slice_index};
-ghost use Rattle.std.specs.List.{slice_get};
+ghost use Rattle.std.specs.Prelude.{◌≡◌, ℕ, ◌+◌, ◌-◌, ◌<◌, ◌≤◌, length, if◌then◌else◌, nat_eq, slice_index};
 ghost use Rattle.refusal.specs.Answers.{answer};
-ghost use Rattle.model.specs.Nesting.{count, links, times_linked, place};
-ghost use Rattle.checker.specs.Checks.{variables_refusal, records_refusal, once_refusal, depth_refusal};
+ghost use Rattle.model.specs.Nesting.{count, links, times_linked};
+ghost use Rattle.checker.specs.Checks.{variables_refusal, records_refusal, once_refusal, entries_refusal};
+ghost use Rattle.checker.specs.Accepting.{program};
 
+use crate::tables::Tables;
 use labels::LabelOrder;
-use model::Place;
 use rules::{ShapeFault, branches, check_record};
-use sheet::{Record, Variable};
-
-pub(crate) fn check_variables<O: LabelOrder>(
-    order: &O,
-    variables: &[Variable],
-) -> Result<(), ShapeFault>
-    ensures { result ≡ answer (variables_refusal (O.meaning order.now) variables.now (length variables.now)) tt }
-{
-    for v in 0..variables.len() {
-        if !order.knows(variables[v].label) {
-            return Err(ShapeFault::VariableLabel(v));
-        }
-    }
-    Ok(())
-}
-
-pub(crate) fn check_records<O: LabelOrder>(
-    order: &O,
-    variables: &[Variable],
-    records: &[Record],
-) -> Result<(), ShapeFault>
-    requires { length records.now ≤ 512 }
-    ensures { result ≡ answer (records_refusal (O.meaning order.now) variables.now records.now (length records.now)) tt }
-{
-    let n = records.len();
-    for j in 0..n {
-        check_record(order, variables, n, j + 1, records[j])?;
-    }
-    Ok(())
-}
+use sheet::Record;
 
 // One link more to a record.
 fn count_link(counts: &mut [u16], link: u16)
@@ -66,38 +37,57 @@ fn count_links(records: &[Record], counts: &mut [u16])
     requires { (length records.now ≤ 512) × (((k : ℕ) → k < length counts.old → slice_index counts.old k ≡ 0)) }
     ensures { (k : ℕ) → k < length counts.old → slice_index counts.new k ≡ times_linked records.now k }
 {
-    for j in 0..records.len() {
-        count_record(counts, records[j]);
+    for entry in records {
+        count_record(counts, *entry);
     }
 }
 
-// 25: each record from 2 up is linked exactly once.
-pub(crate) fn check_linked_once(records: &[Record]) -> Result<(), ShapeFault>
-    requires { (1 ≤ length records.now) × (length records.now ≤ 512) }
-    ensures { result ≡ answer (once_refusal records.now (length records.now - 1)) tt }
-{
-    let mut counts = [0u16; 513];
-    count_links(records, &mut counts);
-    for j in 0..records.len() - 1 {
-        if counts[j + 2] != 1 {
-            return Err(ShapeFault::LinkedOnce(j + 2));
+impl Tables {
+    // 20: the label of each variable is known.
+    fn check_variables<O: LabelOrder>(&self, order: &O) -> Result<(), ShapeFault>
+        ensures { result ≡ answer (variables_refusal (O.meaning order.now) self.now.variables.items (length self.now.variables.items)) tt }
+    {
+        match self
+            .variables
+            .iter()
+            .position(|variable| !order.knows(variable.label))
+        {
+            Some(v) => Err(ShapeFault::VariableLabel(v)),
+            None => Ok(()),
         }
     }
-    Ok(())
-}
 
-// How deep a record may be nested, the main chain being 1.
-const DEEPEST: u16 = 16;
+    fn check_records<O: LabelOrder>(&self, order: &O) -> Result<(), ShapeFault>
+        ensures { result ≡ answer (records_refusal (O.meaning order.now) self.now.variables.items self.now.records.items (length self.now.records.items)) tt }
+    {
+        let n = self.records.len();
+        for (j, entry) in self.records.iter().enumerate() {
+            check_record(order, &self.variables, n, j + 1, *entry)?;
+        }
+        Ok(())
+    }
 
-// 26: no record is nested deeper than that.
-pub(crate) fn check_depth(records: &[Record], places: &[Place]) -> Result<(), ShapeFault>
-    requires { (length records.now ≤ 512) × ((((j : ℕ) → j < length records.now → slice_get places.now j ≡ Some (place records.now (j + 1)))) × (length records.now ≤ length places.now)) }
-    ensures { result ≡ answer (depth_refusal records.now (length records.now)) tt }
-{
-    for j in 0..records.len() {
-        if places[j].depth > DEEPEST {
-            return Err(ShapeFault::Depth(j + 1));
+    // 25: each record from 2 up is linked exactly once.
+    fn check_linked_once(&self) -> Result<(), ShapeFault>
+        ensures { result ≡ answer (once_refusal self.now.records.items (length self.now.records.items - 1)) tt }
+    {
+        let mut counts = [0u16; 513];
+        count_links(&self.records, &mut counts);
+        match counts[2..self.records.len() + 1]
+            .iter()
+            .position(|times| *times != 1)
+        {
+            Some(j) => Err(ShapeFault::LinkedOnce(j + 2)),
+            None => Ok(()),
         }
     }
-    Ok(())
+
+    // What of the shape is asked before the places of the records are known.
+    pub(crate) fn check_entries<O: LabelOrder>(&self, order: &O) -> Result<(), ShapeFault>
+        ensures { result ≡ answer (entries_refusal (O.meaning order.now) (program self.now.variables.items self.now.records.items)) tt }
+    {
+        self.check_variables(order)?;
+        self.check_records(order)?;
+        self.check_linked_once()
+    }
 }

@@ -30,20 +30,15 @@ fn walk(records: &[Record], k: usize, here: Place, out: &mut [Place])
     walk(records, entry.next as usize, here, out);
 }
 
-// Writes down where each record stands; entries past the last record stay.
+// Writes down where each record stands.
 pub(crate) fn nest(records: &[Record], out: &mut [Place])
     requires linked { Linked records.now }
-    requires fits { (1 ≤ length records.now) × ((length records.now ≤ 512) × (length records.now ≤ length out.old)) }
-    ensures table { out.new ≡ nested records.now out.old }
-    ensures each { (j : ℕ) → j < length records.now → Filled records.now out.new j }
+    requires fits { (1 ≤ length records.now) × ((length records.now ≤ 512) × (length records.now ≡ length out.old)) }
+    ensures { out.new ≡ nested records.now }
 {
-    walk(
-        records,
-        1,
-        Place {
-            enclosing: 0,
-            depth: 1,
-        },
-        out,
-    );
+    let main = Place {
+        enclosing: 0,
+        depth: 1,
+    };
+    walk(records, 1, main, out);
 }

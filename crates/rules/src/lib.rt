@@ -9,7 +9,6 @@ mod typing;
 pub use faults::{RuleFault, ShapeFault};
 pub use operands::Labelled;
 pub use shape::{
-    NO_VARIABLE, SKIP, branches, check_record, links_fit, present, record_at, right_kinds,
-    same_length, variable_at,
+    branches, check_record, links_fit, present, record_at, right_kinds, same_length, variable_at,
 };
 pub use typing::{around, broken_rule, label_operands, label_read};

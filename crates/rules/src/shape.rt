@@ -1,47 +1,31 @@
 // What the shape of one record must keep: its label, its variables, its links.
-ghost use Rattle.std.specs.Prelude.{◌≡◌, ◌-◌, ◌<◌, length, nat_lt};
+ghost use Rattle.std.specs.Prelude.{◌≡◌, ℕ, ◌-◌, ◌<◌, Bool, ◌&&◌, length, nat_lt};
 ghost use Rattle.refusal.specs.Answers.{answer};
 ghost use Rattle.model.specs.Nesting.{branches, record_at};
-ghost use Rattle.model.specs.Program.{variable_at};
-ghost use Rattle.rules.specs.Shape.{is_number, is_array, present, right_kinds, same_length, link_fits, links_fit, record_refusal};
+ghost use Rattle.model.specs.Program.{variable_at, numbers, arrays};
+ghost use Rattle.rules.specs.Shape.{all, is_number, is_array, present, right_kinds, same_length, link_fits, links_fit, record_refusal};
 
 use crate::faults::ShapeFault;
 use labels::LabelOrder;
 use sheet::{Form, Kind, Record, Variable};
 
-pub const NO_VARIABLE: Variable = Variable {
-    label: 0,
-    kind: Kind::Number,
-};
-
 // The variable numbered v, or a number labelled 0 beyond the table.
+#[tactic(auto, unfolding(model::specs::Program::variable_at))]
 pub fn variable_at(variables: &[Variable], v: u8) -> Variable
     ensures { result ≡ variable_at variables.now v }
 {
-    if (v as usize) < variables.len() {
-        variables[v as usize]
-    } else {
-        NO_VARIABLE
-    }
+    variables.get(v as usize).copied().unwrap_or_default()
 }
 
-pub const SKIP: Record = Record {
-    label: 0,
-    next: 0,
-    form: Form::Skip,
-};
-
 // The record numbered k, from 1, or a skip labelled 0 where there is none.
+#[tactic(auto, unfolding(model::specs::Nesting::record_at))]
 pub fn record_at(records: &[Record], k: usize) -> Record
     ensures { result ≡ record_at records.now k }
 {
-    if k < 1 {
-        return SKIP;
-    }
-    if k > records.len() {
-        return SKIP;
-    }
-    records[k - 1]
+    k.checked_sub(1)
+        .and_then(|j| records.get(j))
+        .copied()
+        .unwrap_or_default()
 }
 
 fn has(variables: &[Variable], v: u8) -> bool
@@ -53,18 +37,31 @@ fn has(variables: &[Variable], v: u8) -> bool
 fn is_number(variables: &[Variable], v: u8) -> bool
     ensures { result ≡ is_number (variable_at variables.now v).kind }
 {
-    match variable_at(variables, v).kind {
-        Kind::Number => true,
-        Kind::Array(_) => false,
-    }
+    matches!(variable_at(variables, v).kind, Kind::Number)
 }
 
 fn is_array(variables: &[Variable], v: u8) -> bool
     ensures { result ≡ is_array (variable_at variables.now v).kind }
 {
-    match variable_at(variables, v).kind {
-        Kind::Number => false,
-        Kind::Array(_) => true,
+    matches!(variable_at(variables, v).kind, Kind::Array(_))
+}
+
+// Do all variables of a form pass, those that are to be numbers the first test, and those that are to be arrays the second?
+fn all_pass<N: Fn(u8) -> bool, A: Fn(u8) -> bool>(form: Form, number: N, array: A) -> bool
+    requires numbers { N.IsAlwaysCallable number }
+    requires arrays { A.IsAlwaysCallable array }
+    ensures { (p q : ℕ → Bool) → ((v : ℕ) (r : Bool) → N.post number v r → r ≡ p v) → ((v : ℕ) (r : Bool) → A.post array v r → r ≡ q v) → result ≡ (all p (numbers form) && all q (arrays form)) }
+{
+    match form {
+        Form::Skip => true,
+        Form::Constant { x, .. } => number(x),
+        Form::If { a, .. } | Form::While { a, .. } => number(a),
+        Form::Copy { x, a } | Form::Declass { x, a } => number(x) && number(a),
+        Form::Oram { x, a } => array(x) && array(a),
+        Form::Binary { x, a, b, .. } => number(x) && number(a) && number(b),
+        Form::Fetch { x, a, b } => number(x) && number(b) && array(a),
+        Form::Store { x, a, b } => number(a) && number(b) && array(x),
+        Form::Mux { x, a, b, c } => number(x) && number(a) && number(b) && number(c),
     }
 }
 
@@ -72,37 +69,14 @@ fn is_array(variables: &[Variable], v: u8) -> bool
 pub fn present(vs: &[Variable], form: Form) -> bool
     ensures { result ≡ present vs.now form }
 {
-    match form {
-        Form::Skip => true,
-        Form::Constant { x, .. } => has(vs, x),
-        Form::If { a, .. } | Form::While { a, .. } => has(vs, a),
-        Form::Copy { x, a } | Form::Declass { x, a } | Form::Oram { x, a } => has(vs, x)
-            && has(vs, a),
-        Form::Binary { x, a, b, .. } => has(vs, x) && has(vs, a) && has(vs, b),
-        Form::Fetch { x, a, b } => has(vs, x) && has(vs, b) && has(vs, a),
-        Form::Store { x, a, b } => has(vs, a) && has(vs, b) && has(vs, x),
-        Form::Mux { x, a, b, c } => has(vs, x) && has(vs, a) && has(vs, b) && has(vs, c),
-    }
+    all_pass(form, |v| has(vs, v), |v| has(vs, v))
 }
 
 // 23: each is of the right kind.
 pub fn right_kinds(vs: &[Variable], form: Form) -> bool
     ensures { result ≡ right_kinds vs.now form }
 {
-    match form {
-        Form::Skip => true,
-        Form::Constant { x, .. } => is_number(vs, x),
-        Form::If { a, .. } | Form::While { a, .. } => is_number(vs, a),
-        Form::Copy { x, a } | Form::Declass { x, a } => is_number(vs, x) && is_number(vs, a),
-        Form::Oram { x, a } => is_array(vs, x) && is_array(vs, a),
-        Form::Binary { x, a, b, .. } => is_number(vs, x) && is_number(vs, a) && is_number(vs, b),
-        Form::Fetch { x, a, b } => is_number(vs, x) && is_number(vs, b) && is_array(vs, a),
-        Form::Store { x, a, b } => is_number(vs, a) && is_number(vs, b) && is_array(vs, x),
-        Form::Mux { x, a, b, c } => is_number(vs, x)
-            && is_number(vs, a)
-            && is_number(vs, b)
-            && is_number(vs, c),
-    }
+    all_pass(form, |v| is_number(vs, v), |v| is_array(vs, v))
 }
 
 // 27: oram's arrays have one length.
@@ -140,6 +114,7 @@ pub fn links_fit(entry: Record, k: usize, n: usize) -> bool
 }
 
 // Record k, of n.
+#[tactic(auto, unfolding(crate::specs::Shape::record_refusal))]
 pub fn check_record<O: LabelOrder>(
     order: &O,
     variables: &[Variable],

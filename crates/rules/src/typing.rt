@@ -63,6 +63,7 @@ pub fn label_read<O: LabelOrder>(order: &O, r: Labelled) -> u8
 }
 
 // The lowest rule that a record breaks in its surroundings.
+#[tactic(auto, using(std::proofs::lemmas::Bool::Decides::nat_tests))]
 pub fn broken_rule<O: LabelOrder>(order: &O, r: Labelled) -> Option<Rule>
     ensures { result ≡ first_broken (O.meaning order.now) r }
 {

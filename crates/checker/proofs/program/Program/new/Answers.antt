@@ -1,9 +1,11 @@
--- The smallest program keeps its invariants: computed.
-use Rattle.std.proofs.Common.{refl, arith}
-use Rattle.model.specs.Nesting.{record_at}
-use Rattle.checker.specs.Checks.{tables_fit}
+use Rattle.std.proofs.Common.{◌≡◌, not, is_some, ap, ◌∙◌, rules}
+use Rattle.checker.specs.Accepting.{program, is_accepted}
+use Rattle.checker.specs.Contents.{smallest}
+use Rattle.checker.proofs.Smallest.{smallest_passes}
 use Rattle.checker.proofs.program.Program.new.Goals as goal
 
-pub invariant_of-result : goal.invariant_of-result
-unfolding tables_fit record_at
-invariant_of-result g c = record { fits = (omega arith, omega arith, omega arith); sound = refl }
+pub invariant_of-result-2 : goal.invariant_of-result-2
+invariant_of-result-2 g c =
+    let L = g.O.LabelOrder.meaning c.args.order in
+    let same : program c.push.new.self.items c.push-2.new.self.items ≡ smallest L.public = search rules in
+    record { accepted = ap (is_accepted L) same ∙ ap (λ o. not (is_some o)) (smallest_passes L (g.met.O.LabelOrder.lawful c.args.order)) }

@@ -1,0 +1,39 @@
+use Rattle.std.proofs.Common.{◌≡◌, ℕ, ◌+◌, Option, List, leb, ltb, not, length, ap, ◌∙◌, sym, rules, tests, arith}
+use Rattle.std.specs.Option.{option_map}
+use Rattle.std.proofs.lemmas.Iterator.{YieldsList-from_slice}
+use Rattle.std.proofs.lemmas.Iterator.Search.{position_from_yields_List}
+use Rattle.std.proofs.lemmas.List.FromFn.{length-map-range_with_len, get_or-map-range_with_len}
+use Rattle.std.proofs.lemmas.Bool.Decides.{nat_tests}
+use Rattle.sheet.specs.declared.tables.Record.{Record}
+use Rattle.refusal.specs.Answers.{answer}
+use Rattle.model.specs.declared.place.Place.{Place}
+use Rattle.model.specs.Nesting.{place}
+use Rattle.rules.specs.declared.faults.ShapeFault.TheVariants.{Depth}
+use Rattle.checker.specs.Checks.{depth_refusal}
+use Rattle.checker.specs.Walking.{nested}
+use Rattle.checker.proofs.Firsts.{Found, first_at}
+use Rattle.checker.proofs.nested.Nested.check_depth.Goals as goal
+
+turned : (n : ℕ) → not (leb n 16) ≡ ltb 16 n
+turned n = grind (arith, nat_tests)
+
+by_first : (rs : List Record) (o : Option ℕ) → Found (λ (q : Place). ltb 16 q.depth) (nested rs) o →
+    answer (option_map (λ j. Depth (j + 1)) o) tt ≡ answer (depth_refusal rs (length rs)) (tt {0})
+unfolding depth_refusal
+by_first rs =
+    let at = λ (j : ℕ). place rs (j + 1) in
+    let none : Place = record { enclosing = 0; depth = 0 } in
+    let long = length-map-range_with_len at 0 (length rs) in
+    first_at (λ (q : Place). ltb 16 q.depth) (λ j. leb (at j).depth 16) (λ j. Depth (j + 1)) (nested rs) none
+    (λ j h. turned (at j).depth ∙ ap (λ (q : Place). ltb 16 q.depth) (sym (get_or-map-range_with_len at 0 (length rs) j j none (omega (arith, h, long)) (omega arith))))
+    (length rs) long
+
+pub returns-in-Some : goal.returns-in-Some
+returns-in-Some c =
+    let rs = c.args.self.now.tables.now.records.items in
+    by_first rs _ (position_from_yields_List {all = nested rs} _ _ _ _ c.in-Some.ensures.ran (YieldsList-from_slice (nested rs) cc) (λ x b q k. search (rules, tests)))
+
+pub returns-in-None : goal.returns-in-None
+returns-in-None c =
+    let rs = c.args.self.now.tables.now.records.items in
+    by_first rs _ (position_from_yields_List {all = nested rs} _ _ _ _ c.in-None.ensures.ran (YieldsList-from_slice (nested rs) cc) (λ x b q k. search (rules, tests)))

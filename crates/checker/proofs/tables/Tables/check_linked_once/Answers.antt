@@ -1,0 +1,48 @@
+use Rattle.std.proofs.Common.{◌≡◌, ℕ, ◌+◌, ◌-◌, ◌<◌, ◌≤◌, Option, List, eqb, not, length, get_or, ap, ◌∙◌, sym, rules, tests, arith}
+use Rattle.std.specs.List.{slice_range}
+use Rattle.std.specs.Option.{option_map}
+use Rattle.std.proofs.lemmas.Iterator.{YieldsList-from_slice}
+use Rattle.std.proofs.lemmas.Iterator.Search.{position_from_yields_List}
+use Rattle.std.proofs.lemmas.List.{get_or-replicate}
+use Rattle.std.proofs.lemmas.Grind.{common_steps}
+use Rattle.sheet.specs.declared.tables.Record.{Record}
+use Rattle.refusal.specs.Answers.{answer}
+use Rattle.model.specs.Nesting.{times_linked}
+use Rattle.rules.specs.declared.faults.ShapeFault.TheVariants.{LinkedOnce}
+use Rattle.checker.specs.Checks.{once_refusal}
+use Rattle.checker.proofs.Firsts.{Found, first_at}
+use Rattle.checker.proofs.tables.Tables.check_linked_once.Goals as goal
+
+from_two : (xs : List ℕ) (n j : ℕ) → n < length xs → 1 ≤ n → j + 1 < n → get_or (slice_range xs 2 (n + 1)) j 0 ≡ get_or xs (j + 2) 0
+from_two xs n j h k l = grind (arith, common_steps)
+
+long_from_two : (xs : List ℕ) (n : ℕ) → n < length xs → 1 ≤ n → length (slice_range xs 2 (n + 1)) ≡ n - 1
+long_from_two xs n h k = grind (arith, common_steps)
+
+by_first : (rs : List Record) (times : List ℕ) → 1 ≤ length rs → length rs < length times → ((k : ℕ) → k < length times → get_or times k 0 ≡ times_linked rs k) → (o : Option ℕ) →
+    Found (λ n. not (eqb n 1)) (slice_range times 2 (length rs + 1)) o → answer (option_map (λ j. LinkedOnce (j + 2)) o) tt ≡ answer (once_refusal rs (length rs - 1)) (tt {0})
+unfolding once_refusal
+by_first rs times some long is =
+    first_at (λ n. not (eqb n 1)) (λ j. eqb (times_linked rs (j + 2)) 1) (λ j. LinkedOnce (j + 2)) (slice_range times 2 (length rs + 1)) 0
+    (λ j h. let low : j + 1 < length rs = omega (arith, h, long_from_two times (length rs) long some) in
+    ap (λ n. not (eqb n 1)) (sym (from_two times (length rs) j long some (omega arith) ∙ is (j + 2) (omega arith))))
+    (length rs - 1) (long_from_two times (length rs) long some)
+
+pub count_links-requires : goal.count_links-requires
+count_links-requires c = (omega (arith, c.deref.ensures), λ k h. get_or-replicate 513 k 0 0 h)
+
+pub returns-in-Some : goal.returns-in-Some
+returns-in-Some c =
+    let rs = c.args.self.now.records.items in
+    let times = c.count_links.new.counts in
+    let rest = slice_range times 2 (length rs + 1) in
+    by_first rs times (omega arith) (omega arith) (λ k h. c.count_links.ensures k (omega arith) ∙ ap (λ rs. times_linked rs k) c.deref.ensures.0) _
+    (position_from_yields_List {all = rest} _ _ _ _ c.in-Some.ensures.ran (YieldsList-from_slice rest (c.iter.ensures.rest ∙ ap (λ n. slice_range times 2 (n + 1)) c.len.ensures.value)) (λ x b q k. search (rules, tests)))
+
+pub returns-in-None : goal.returns-in-None
+returns-in-None c =
+    let rs = c.args.self.now.records.items in
+    let times = c.count_links.new.counts in
+    let rest = slice_range times 2 (length rs + 1) in
+    by_first rs times (omega arith) (omega arith) (λ k h. c.count_links.ensures k (omega arith) ∙ ap (λ rs. times_linked rs k) c.deref.ensures.0) _
+    (position_from_yields_List {all = rest} _ _ _ _ c.in-None.ensures.ran (YieldsList-from_slice rest (c.iter.ensures.rest ∙ ap (λ n. slice_range times 2 (n + 1)) c.len.ensures.value)) (λ x b q k. search (rules, tests)))
