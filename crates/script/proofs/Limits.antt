@@ -107,21 +107,22 @@ listed_drop ns k (suc n) e =
 pub spelled : (ns : List ℕ) (n : ℕ) → length ns ≡ n → listed 0 n ns ≡ ns
 spelled ns n e = listed_drop ns 0 n (omega arith)
 
--- one more word of a bank
-pub each_more : {all : Option (List ℕ)} (done after : List ℕ) (n : ℕ) {words : List (List ℕ)} (word : List ℕ) (rest : List (List ℕ)) → all ≡ front done (each words) → words ≡ word ∷ rest → Some n ≡ field 4294967295 word → after ≡ done ++ (n ∷ []) → all ≡ front after (each rest)
-unfolding each
-each_more done after n word rest inv at e more =
-    inv
-    ∙ ap (λ ws. front done (each ws)) at
-    ∙ ap (λ o. front done (before o (each rest))) (sym e)
-    ∙ front_more done n (each rest)
-    ∙ ap (λ ns. front ns (each rest)) (sym more)
+-- the words of a bank, up to a place
+module _ {all : Option (List ℕ)} (done : List ℕ) (words : List (List ℕ)) (i : ℕ) (inv : all ≡ front done (each (drop i words))) where
+  word_here : (word : List ℕ) (o : Option ℕ) → i < length words → word ≡ get_or words i word → o ≡ field 4294967295 word → all ≡ front done (before o (each (drop (i + 1) words)))
+  unfolding each
+  word_here word o h at e =
+      inv
+      ∙ ap (λ ws. front done (each ws)) (drop_more words i word h ∙ ap (λ w. w ∷ drop (i + 1) words) (sym at))
+      ∙ ap (λ p. front done (before p (each (drop (i + 1) words)))) (sym e)
 
-pub each_stuck : {all : Option (List ℕ)} (done : List ℕ) {words : List (List ℕ)} (word : List ℕ) (rest : List (List ℕ)) → all ≡ front done (each words) → words ≡ word ∷ rest → None ≡ field 4294967295 word → None ≡ all
-unfolding each
-each_stuck done word rest inv at e =
-    sym (inv ∙ ap (λ ws. front done (each ws)) at ∙ ap (λ o. front done (before o (each rest))) (sym e))
+  pub each_more : (after : List ℕ) (n : ℕ) (word : List ℕ) → i < length words → word ≡ get_or words i word → Some n ≡ field 4294967295 word → after ≡ done ++ (n ∷ []) → all ≡ front after (each (drop (i + 1) words))
+  each_more after n word h at e more =
+      word_here word (Some n) h at e ∙ front_more done n (each (drop (i + 1) words)) ∙ ap (λ ns. front ns (each (drop (i + 1) words))) (sym more)
 
-pub each_none : (ns : List ℕ) → front ns (each []) ≡ Some ns
-unfolding each
-each_none ns = ap Some (append-nil ns)
+  pub each_stuck : (word : List ℕ) → i < length words → word ≡ get_or words i word → None ≡ field 4294967295 word → None ≡ all
+  each_stuck word h at e = sym (word_here word None h at e)
+
+  pub each_all : length words ≤ i → Some done ≡ all
+  unfolding each
+  each_all h = sym (inv ∙ ap (λ ws. front done (each ws)) (drop_all i words h) ∙ ap Some (append-nil done))

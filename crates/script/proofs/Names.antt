@@ -6,7 +6,7 @@ use Rattle.std.proofs.lemmas.List.Splits.{join_with_byte-slice_split}
 use Rattle.std.specs.Str.{bytes_eq}
 use Rattle.std.proofs.lemmas.Slice.Eq.{bytes_eq-Decides}
 use Rattle.std.proofs.lemmas.Bool.{cases_Bool}
-use Rattle.script.specs.Commands.{call, sheet, order_of, bank_of, sheet_of, entry_of, each, bank_words}
+use Rattle.script.specs.Commands.{call, sheet, order_of, bank_of, sheet_of, entry_of}
 use Rattle.script.specs.Fields.{words_of, numbers}
 use Rattle.script.proofs.Spaces.{first}
 
@@ -38,10 +38,3 @@ unfolding words_of
 sheet_text text =
     let t = first text in
     ap sheet_of t.2 ∙ ap (λ l. Some (sheet l)) (ap (join_with_byte 32) (sym t.2) ∙ join_with_byte-slice_split 32 text)
-
-pub no_zeros : (first : List ℕ) (words : List (List ℕ)) → (first ≡ codes "zeros" → ⊥) → bank_words (first ∷ words) ≡ each (first ∷ words)
-no_zeros first words a = rw (other first (codes "zeros") a)
-
-pub none_asked : each [] ≡ bank_words []
-unfolding each
-none_asked = refl
