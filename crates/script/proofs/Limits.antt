@@ -1,5 +1,5 @@
 -- Words against limits, one by one. Assumes nothing.
-use Rattle.std.proofs.Common.{◌≡◌, ℕ, zero, suc, ◌+◌, ◌<◌, ◌≤◌, leb, List, [], ◌∷◌, ◌++◌, length, get_or, take, drop, set, Some, None, Option, sym, refl, ap, ap₂, ◌∙◌, inl, inr, append_assoc, append-nil, arith, drop-cons, drop-set-lt}
+use Rattle.std.proofs.Common.{◌≡◌, ℕ, zero, suc, ◌+◌, ◌<◌, ◌≤◌, leb, List, [], ◌∷◌, ◌++◌, length, get_or, take, drop, set, Some, None, Option, sym, refl, ap, ap₂, ◌∙◌, inl, inr, append_assoc, append-nil, arith, drop-set-lt}
 use Rattle.std.proofs.lemmas.List.{drop_more, drop_all, take_all, take_more_set}
 use Rattle.std.proofs.lemmas.Bool.{cases_Bool, leb-true, cond-true, cond-false}
 use Rattle.script.specs.Commands.{each}
@@ -93,19 +93,6 @@ fit (most ∷ limits) (word ∷ words) ns e (suc k) h =
     let p = parts (field most word) (numbers limits words) ns e in
     let same : get_or ns (suc k) 0 ≡ get_or p.1 k 0 = ap (λ l. get_or l (suc k) 0) p.4 in
     omega (arith, fit limits words p.1 (sym p.3) k (omega arith))
-
--- the elements of a list from a place on, written out
-abbrev pub listed : ℕ → ℕ → List ℕ → List ℕ
-listed k zero ns = []
-listed k (suc n) ns = get_or ns k 0 ∷ listed (suc k) n ns
-
-listed_drop : (ns : List ℕ) (k n : ℕ) → length ns ≡ k + n → listed k n ns ≡ drop k ns
-listed_drop ns k zero e = sym (drop_all k ns (omega arith))
-listed_drop ns k (suc n) e =
-    ap (λ l. get_or ns k 0 ∷ l) (listed_drop ns (suc k) n (omega arith)) ∙ sym (drop-cons ns k 0 (omega arith))
-
-pub spelled : (ns : List ℕ) (n : ℕ) → length ns ≡ n → listed 0 n ns ≡ ns
-spelled ns n e = listed_drop ns 0 n (omega arith)
 
 -- the words of a bank, up to a place
 module _ {all : Option (List ℕ)} (done : List ℕ) (words : List (List ℕ)) (i : ℕ) (inv : all ≡ front done (each (drop i words))) where
