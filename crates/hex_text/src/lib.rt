@@ -30,6 +30,7 @@ fn pair(a: u8, b: u8) -> Option<u8>
 }
 
 // The bytes that a text of digits spells; none where a character is no digit or one is left over.
+#[tactic(auto, using(crate::proofs::Pairs::pair_more))]
 pub fn decode(heap: Global, text: &[u8]) -> Result<Option<Vec<u8>>, AllocError>
     ensures { IfOk result (λ bytes. option_map vec_items bytes ≡ bytes_of text.now) }
 {

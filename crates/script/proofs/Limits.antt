@@ -1,5 +1,5 @@
 -- Words against limits, one by one. Assumes nothing.
-use Rattle.std.proofs.Common.{◌≡◌, ℕ, zero, suc, ◌+◌, ◌<◌, ◌≤◌, leb, List, [], ◌∷◌, ◌++◌, length, get_or, take, drop, set, Some, None, Option, sym, refl, ap, ap₂, ◌∙◌, inl, inr, append_assoc, append-nil, arith, drop-cons, drop-set-lt}
+use Rattle.std.proofs.Common.{◌≡◌, ℕ, zero, suc, ◌+◌, ◌<◌, ◌≤◌, leb, List, [], ◌∷◌, ◌++◌, length, get_or, take, drop, set, Some, None, Option, sym, refl, ap, ap₂, ◌∙◌, inl, inr, append_assoc, append-nil, arith, drop-set-lt}
 use Rattle.std.proofs.lemmas.List.{drop_more, drop_all, take_all, take_more_set}
 use Rattle.std.proofs.lemmas.Bool.{cases_Bool, leb-true, cond-true, cond-false}
 use Rattle.script.specs.Commands.{each}
@@ -94,34 +94,22 @@ fit (most ∷ limits) (word ∷ words) ns e (suc k) h =
     let same : get_or ns (suc k) 0 ≡ get_or p.1 k 0 = ap (λ l. get_or l (suc k) 0) p.4 in
     omega (arith, fit limits words p.1 (sym p.3) k (omega arith))
 
--- the elements of a list from a place on, written out
-abbrev pub listed : ℕ → ℕ → List ℕ → List ℕ
-listed k zero ns = []
-listed k (suc n) ns = get_or ns k 0 ∷ listed (suc k) n ns
+-- the words of a bank, up to a place
+module _ {all : Option (List ℕ)} (done : List ℕ) (words : List (List ℕ)) (i : ℕ) (inv : all ≡ front done (each (drop i words))) where
+  word_here : (word : List ℕ) (o : Option ℕ) → i < length words → word ≡ get_or words i word → o ≡ field 4294967295 word → all ≡ front done (before o (each (drop (i + 1) words)))
+  unfolding each
+  word_here word o h at e =
+      inv
+      ∙ ap (λ ws. front done (each ws)) (drop_more words i word h ∙ ap (λ w. w ∷ drop (i + 1) words) (sym at))
+      ∙ ap (λ p. front done (before p (each (drop (i + 1) words)))) (sym e)
 
-listed_drop : (ns : List ℕ) (k n : ℕ) → length ns ≡ k + n → listed k n ns ≡ drop k ns
-listed_drop ns k zero e = sym (drop_all k ns (omega arith))
-listed_drop ns k (suc n) e =
-    ap (λ l. get_or ns k 0 ∷ l) (listed_drop ns (suc k) n (omega arith)) ∙ sym (drop-cons ns k 0 (omega arith))
+  pub each_more : (after : List ℕ) (n : ℕ) (word : List ℕ) → i < length words → word ≡ get_or words i word → Some n ≡ field 4294967295 word → after ≡ done ++ (n ∷ []) → all ≡ front after (each (drop (i + 1) words))
+  each_more after n word h at e more =
+      word_here word (Some n) h at e ∙ front_more done n (each (drop (i + 1) words)) ∙ ap (λ ns. front ns (each (drop (i + 1) words))) (sym more)
 
-pub spelled : (ns : List ℕ) (n : ℕ) → length ns ≡ n → listed 0 n ns ≡ ns
-spelled ns n e = listed_drop ns 0 n (omega arith)
+  pub each_stuck : (word : List ℕ) → i < length words → word ≡ get_or words i word → None ≡ field 4294967295 word → None ≡ all
+  each_stuck word h at e = sym (word_here word None h at e)
 
--- one more word of a bank
-pub each_more : {all : Option (List ℕ)} (done after : List ℕ) (n : ℕ) {words : List (List ℕ)} (word : List ℕ) (rest : List (List ℕ)) → all ≡ front done (each words) → words ≡ word ∷ rest → Some n ≡ field 4294967295 word → after ≡ done ++ (n ∷ []) → all ≡ front after (each rest)
-unfolding each
-each_more done after n word rest inv at e more =
-    inv
-    ∙ ap (λ ws. front done (each ws)) at
-    ∙ ap (λ o. front done (before o (each rest))) (sym e)
-    ∙ front_more done n (each rest)
-    ∙ ap (λ ns. front ns (each rest)) (sym more)
-
-pub each_stuck : {all : Option (List ℕ)} (done : List ℕ) {words : List (List ℕ)} (word : List ℕ) (rest : List (List ℕ)) → all ≡ front done (each words) → words ≡ word ∷ rest → None ≡ field 4294967295 word → None ≡ all
-unfolding each
-each_stuck done word rest inv at e =
-    sym (inv ∙ ap (λ ws. front done (each ws)) at ∙ ap (λ o. front done (before o (each rest))) (sym e))
-
-pub each_none : (ns : List ℕ) → front ns (each []) ≡ Some ns
-unfolding each
-each_none ns = ap Some (append-nil ns)
+  pub each_all : length words ≤ i → Some done ≡ all
+  unfolding each
+  each_all h = sym (inv ∙ ap (λ ws. front done (each ws)) (drop_all i words h) ∙ ap Some (append-nil done))

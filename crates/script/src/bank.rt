@@ -2,7 +2,7 @@
 ghost use Rattle.std.specs.Prelude.{◌≡◌, IfOk, vec_items};
 ghost use Rattle.std.specs.Option.{option_map};
 ghost use Rattle.script.specs.Commands.{each, zeros_of, bank_words};
-ghost use Rattle.script.specs.Fields.{fields};
+ghost use Rattle.script.specs.Fields.{words_of, fields};
 
 use crate::fields::{WORD, cut, field, numbers};
 use std::alloc::{AllocError, Global};
@@ -21,18 +21,15 @@ fn zeros(heap: Global, rest: Option<&str>) -> Result<Option<Vec<u32>>, AllocErro
 }
 
 // The words one by one.
-fn each(heap: Global, text: Option<&str>) -> Result<Option<Vec<u32>>, AllocError>
-    ensures { IfOk result (λ v. option_map vec_items v ≡ each (fields text.entry)) }
+fn each(heap: Global, text: &str) -> Result<Option<Vec<u32>>, AllocError>
+    ensures { IfOk result (λ v. option_map vec_items v ≡ each (words_of text.now)) }
 {
     let mut all = Vec::new(heap);
-    let mut rest = text;
-    while let Some(text) = rest {
-        let (word, more) = cut(text);
+    for word in text.split(' ') {
         match field(word, WORD) {
             Some(n) => all.push(n as u32)?,
             None => return Ok(None),
         }
-        rest = more;
     }
     Ok(Some(all))
 }
@@ -41,11 +38,11 @@ fn each(heap: Global, text: Option<&str>) -> Result<Option<Vec<u32>>, AllocError
 pub fn words(heap: Global, text: Option<&str>) -> Result<Option<Vec<u32>>, AllocError>
     ensures { IfOk result (λ v. option_map vec_items v ≡ bank_words (fields text.entry)) }
 {
-    if let Some(line) = text {
-        let (head, rest) = cut(line);
-        if head == "zeros" {
-            return zeros(heap, rest);
-        }
+    let Some(line) = text else {
+        return Ok(Some(Vec::new(heap)));
+    };
+    match cut(line) {
+        ("zeros", rest) => zeros(heap, rest),
+        _ => each(heap, line),
     }
-    each(heap, text)
 }

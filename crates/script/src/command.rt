@@ -52,6 +52,7 @@ pub enum Command<'a> {
 }
 
 // A command of no fields.
+#[tactic(auto, unfolding(crate::specs::Fields::numbers))]
 fn alone<'a>(rest: Option<&str>, command: Command<'a>) -> Option<Command<'a>>
     ensures { option_map asked result ≡ option_map (λ _. asked command.entry) (numbers [] (fields rest.entry)) }
 {
@@ -68,6 +69,7 @@ fn order_set(rest: Option<&str>) -> Option<Command<'_>>
     Some(Command::OrderSet(parties))
 }
 
+#[tactic(auto, using(crate::proofs::Names::named))]
 fn order(rest: Option<&str>) -> Option<Command<'_>>
     ensures { option_map asked result ≡ order_of (fields rest.entry) }
 {
@@ -98,6 +100,7 @@ fn bank(rest: Option<&str>) -> Option<Command<'_>>
     }
 }
 
+#[tactic(auto, using(crate::proofs::Names::sheet_text))]
 fn sheet(rest: Option<&str>) -> Option<Command<'_>>
     ensures { option_map asked result ≡ sheet_of (fields rest.entry) }
 {
@@ -156,6 +159,7 @@ fn pick(rest: Option<&str>) -> Option<Command<'_>>
 }
 
 // The command of a name and what stands behind it.
+#[tactic(auto, using(crate::proofs::Names::named))]
 fn read_command<'a>(name: &str, rest: Option<&'a str>) -> Option<Command<'a>>
     ensures { option_map asked result ≡ asks (name.now ∷ fields rest.entry) }
 {

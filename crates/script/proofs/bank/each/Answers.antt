@@ -1,18 +1,42 @@
-use Rattle.std.proofs.Common.{vec_items, sym, ap, ◌∙◌}
+use Rattle.std.proofs.Common.{length, drop, vec_items, sym, ap, ◌∙◌, arith, lit<}
+use Rattle.std.proofs.lemmas.Iterator.Consumers.{YieldsList-at, YieldsList-turn, YieldsList-end}
+use Rattle.std.proofs.lemmas.Iterator.Splits.{YieldsList-from_str_split}
+use Rattle.std.proofs.lemmas.List.{length_push}
 use Rattle.script.specs.Commands.{each}
-use Rattle.script.specs.Fields.{fields}
-use Rattle.script.proofs.Limits.{front, each_more, each_stuck, each_none}
+use Rattle.script.specs.Fields.{words_of}
+use Rattle.script.proofs.Limits.{front, each_more, each_stuck, each_all}
 use Rattle.script.proofs.bank.each.Goals as goal
 
-pub returns-in-None : goal.returns-in-None
-returns-in-None c =
-    each_stuck (vec_items c.loop-rest.all) c.cut.result.0.now (fields c.cut.result.1) c.loop-rest.invariant (ap fields c.in-Some.is ∙ c.cut.ensures) c.in-None.ensures.value
+pub returns-in-None-field : goal.returns-in-None-field
+unfolding words_of
+returns-in-None-field c =
+    let text = c.args.text.now in
+    let t =
+    YieldsList-turn
+    (YieldsList-at c.into_iter-word-iterator.ensures.into_iter_gives (YieldsList-from_str_split 32 text (lit< tt) c.split-word-items.ensures.text c.split-word-items.ensures.has_more c.split-word-items.ensures.pattern))
+    c.loop-word.yielded _ c.loop-word.yielded_by _ _ c.in-Some.word c.in-Some.is c.next.ensures.steps
+    in
+    each_stuck (vec_items c.loop-word.all) (words_of text) (length c.loop-word.yielded) c.loop-word.invariant c.in-Some.word.now t.0 t.1 c.in-None-field.ensures.value
 
-pub loop-rest-preserved : goal.loop-rest-preserved
-loop-rest-preserved c =
-    each_more (vec_items c.loop-rest.all) (vec_items c.push.new.self) c.in-Some-field.n c.cut.result.0.now (fields c.cut.result.1) c.loop-rest.invariant (ap fields c.in-Some.is ∙ c.cut.ensures) c.in-Some-field.ensures.value c.in_ok-push-in-Some-field.ensures.items
+pub loop-word-preserved : goal.loop-word-preserved
+unfolding words_of
+loop-word-preserved c =
+    let text = c.args.text.now in
+    let t =
+    YieldsList-turn
+    (YieldsList-at c.into_iter-word-iterator.ensures.into_iter_gives (YieldsList-from_str_split 32 text (lit< tt) c.split-word-items.ensures.text c.split-word-items.ensures.has_more c.split-word-items.ensures.pattern))
+    c.loop-word.yielded _ c.loop-word.yielded_by _ _ c.in-Some.word c.in-Some.is c.next.ensures.steps
+    in
+    each_more (vec_items c.loop-word.all) (words_of text) (length c.loop-word.yielded) c.loop-word.invariant (vec_items c.push.new.self) c.in-Some-field.n c.in-Some.word.now t.0 t.1 c.in-Some-field.ensures.value c.in_ok-push-in-Some-field.ensures.items
+    ∙ sym (ap (λ k. front (vec_items c.push.new.self) (each (drop k (words_of text)))) (length_push c.loop-word.yielded c.in-Some.word))
 
 pub returns : goal.returns
+unfolding words_of
 returns c =
-    let done = vec_items c.loop-rest.all in
-    sym (c.loop-rest.invariant ∙ ap (λ o. front done (each (fields o))) c.in_default.is ∙ each_none done)
+    let text = c.args.text.now in
+    let t =
+    YieldsList-end
+    (YieldsList-at c.into_iter-word-iterator.ensures.into_iter_gives (YieldsList-from_str_split 32 text (lit< tt) c.split-word-items.ensures.text c.split-word-items.ensures.has_more c.split-word-items.ensures.pattern))
+    c.loop-word.yielded _ c.loop-word.yielded_by _ _ c.in-None.is c.next.ensures.steps
+    in
+    each_all (vec_items c.loop-word.all) (words_of text) (length c.loop-word.yielded) c.loop-word.invariant (omega (arith, t.1))

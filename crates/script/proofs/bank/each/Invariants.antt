@@ -1,11 +1,8 @@
-use Rattle.std.proofs.Common.{◌≡◌, length, vec_items}
+use Rattle.std.proofs.Common.{◌≡◌, length, drop, vec_items}
 use Rattle.script.specs.Commands.{each}
-use Rattle.script.specs.Fields.{fields}
+use Rattle.script.specs.Fields.{words_of}
 use Rattle.script.proofs.Limits.{front}
 use Rattle.script.proofs.bank.each.Given as goal
 
-abbrev pub invariant-loop-rest : goal.invariant-loop-rest
-invariant-loop-rest l = each (fields l.initial.rest) ≡ front (vec_items l.all) (each (fields l.rest))
-
-abbrev pub decreases-loop-rest : goal.decreases-loop-rest
-decreases-loop-rest l = length (fields l.rest)
+abbrev pub invariant-loop-word : goal.invariant-loop-word
+invariant-loop-word l = each (words_of l.text) ≡ front (vec_items l.all) (each (drop (length l.yielded) (words_of l.text)))

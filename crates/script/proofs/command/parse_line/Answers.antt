@@ -1,9 +1,6 @@
-use Rattle.std.proofs.Common.{sym, ap, ◌∙◌}
-use Rattle.script.specs.Commands.{asks}
+use Rattle.std.proofs.Common.{rules}
 use Rattle.script.proofs.Back.{read_back}
 use Rattle.script.proofs.command.parse_line.Goals as goal
 
-pub returns : goal.returns
-returns c =
-    let value = c.read_command.ensures ∙ sym (ap asks c.cut.ensures) in
-    record { value = value; back = read_back c.args.line.now _ value }
+pub returns-clause-back : goal.returns-clause-back
+returns-clause-back c = read_back c.args.line.now _ (search rules)
