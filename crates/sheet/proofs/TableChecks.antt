@@ -1,20 +1,17 @@
 -- When tables are refused. Assumes nothing.
-use Rattle.std.proofs.Common.{◌≡◌, ℕ, ◌+◌, ◌*◌, ◌<◌, ◌≤◌, cond, leb, List, length, is_some, Some, None, Ok, Err, Option, sym, refl, ap, ◌∙◌, add-one, arith}
+use Rattle.std.proofs.Common.{◌≡◌, ℕ, ◌+◌, ◌<◌, ◌≤◌, List, length, Some, None, sym, refl, ap, ◌∙◌, add-one, arith}
 use Rattle.std.specs.Option.{option_or}
-use Rattle.std.proofs.lemmas.Bool.{le-leb, lt-leb}
 use Rattle.std.proofs.lemmas.Bool.Decides.{nat_tests}
-use Rattle.sheet.specs.declared.faults.SheetFault.TheVariants.{Buffer}
 use Rattle.sheet.specs.declared.faults.SheetFault.{SheetFault}
 use Rattle.sheet.specs.declared.tables.Form.TheVariants.{Skip}
 use Rattle.sheet.specs.declared.tables.Variable.{Variable}
 use Rattle.sheet.specs.declared.tables.Record.{Record}
 use Rattle.sheet.specs.Format.{sheet_bytes, word16}
-use Rattle.refusal.specs.Answers.{expect, answer}
 use Rattle.sheet.specs.Reading.{counts_refusal, sheet_refusal, variables_refusal, variable_refusal, variable_place, variable_part, cells_below}
 use Rattle.refusal.proofs.First.{both_none, first_clear, first_stop}
 use Rattle.sheet.proofs.Decoding.{variable_few}
-use Rattle.sheet.proofs.ReadsBack.{refused_by_variables, sheet_long}
-use Rattle.sheet.specs.Layout.{tables_refusal, layout_refusal, laid_over, over}
+use Rattle.sheet.proofs.ReadsBack.{refused_by_variables}
+use Rattle.sheet.specs.Layout.{tables_refusal, layout_refusal}
 
 pub none_yet : (bs : List ℕ) → variables_refusal bs 0 ≡ None
 unfolding variables_refusal
@@ -64,30 +61,6 @@ module _ (vs : List Variable) (rs : List Record) where
   unfolding tables_refusal
   counts e = in_limits (length vs) (length rs) (both_none _ _ e).0
 
-  pub layout_tables : (room : ℕ) (f : SheetFault) → tables_refusal vs rs ≡ Some f → layout_refusal vs rs room ≡ Some f
-  unfolding layout_refusal
-  layout_tables room f e = ap (λ o. option_or o (expect (leb (length (sheet_bytes vs rs)) room) (Buffer (length (sheet_bytes vs rs))))) e
-
-  pub layout_short : (room : ℕ) → tables_refusal vs rs ≡ None → room < length (sheet_bytes vs rs) → layout_refusal vs rs room ≡ Some (Buffer (length (sheet_bytes vs rs)))
-  unfolding layout_refusal
-  layout_short room e h =
-      ap (λ o. option_or o (expect (leb (length (sheet_bytes vs rs)) room) (Buffer (length (sheet_bytes vs rs))))) e
-      ∙ ap (λ b. expect b (Buffer (length (sheet_bytes vs rs)))) (lt-leb _ _ h)
-
   pub layout_fits : (room : ℕ) → tables_refusal vs rs ≡ None → length (sheet_bytes vs rs) ≤ room → layout_refusal vs rs room ≡ None
   unfolding layout_refusal
-  layout_fits room e h =
-      ap (λ o. option_or o (expect (leb (length (sheet_bytes vs rs)) room) (Buffer (length (sheet_bytes vs rs))))) e
-      ∙ ap (λ b. expect b (Buffer (length (sheet_bytes vs rs)))) (le-leb _ _ h)
-
-  pub stays_out : (out : List ℕ) (f : SheetFault) → layout_refusal vs rs (length out) ≡ Some f → out ≡ laid_over vs rs out
-  stays_out out f e = sym (ap (λ o. cond (is_some o) out (over (sheet_bytes vs rs) out)) e)
-
-  pub over_out : (out : List ℕ) → layout_refusal vs rs (length out) ≡ None → over (sheet_bytes vs rs) out ≡ laid_over vs rs out
-  over_out out e = sym (ap (λ o. cond (is_some o) out (over (sheet_bytes vs rs) out)) e)
-
-  pub short_answer : (o : Option SheetFault) → o ≡ Some (Buffer (length (sheet_bytes vs rs))) → Err (Buffer (4 + 4 * length vs + 12 * length rs)) ≡ answer {X = ℕ} o (length (sheet_bytes vs rs))
-  short_answer o e = ap (λ n. Err (Buffer n)) (sym (sheet_long vs rs)) ∙ sym (ap (λ q. answer q (length (sheet_bytes vs rs))) e)
-
-  pub long_answer : (o : Option SheetFault) → o ≡ None → Ok (4 + 4 * length vs + 12 * length rs) ≡ answer o (length (sheet_bytes vs rs))
-  long_answer o e = ap Ok (sym (sheet_long vs rs)) ∙ sym (ap (λ q. answer q (length (sheet_bytes vs rs))) e)
+  layout_fits room e h = grind (arith, nat_tests)

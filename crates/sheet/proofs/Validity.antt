@@ -6,10 +6,6 @@ use Rattle.sheet.specs.declared.faults.SheetFault.{SheetFault}
 use Rattle.sheet.specs.Reading.{sheet_refusal}
 use Rattle.sheet.specs.Valid.{valid, read}
 
-pub valid_from_none : (bs : List ℕ) → sheet_refusal bs ≡ None → valid bs ≡ true
-unfolding valid
-valid_from_none bs e = ap (λ o. not (is_some o)) e
-
 none : (o : Option SheetFault) → not (is_some o) ≡ true → o ≡ None
 none None e = refl
 none (Some f) e = let z : ◌≡◌ {A = Bool} false true = e in cc
@@ -17,10 +13,6 @@ none (Some f) e = let z : ◌≡◌ {A = Bool} false true = e in cc
 pub none_from_valid : (bs : List ℕ) → valid bs ≡ true → sheet_refusal bs ≡ None
 unfolding valid
 none_from_valid bs e = none (sheet_refusal bs) e
-
-pub read_refused : (old new : List ℕ) (f : SheetFault) → sheet_refusal new ≡ Some f → old ≡ read old new
-unfolding valid
-read_refused old new f e = sym (ap (λ o. cond (not (is_some o)) new old) e)
 
 pub read_accepted : (old new : List ℕ) → sheet_refusal new ≡ None → new ≡ read old new
 unfolding valid
