@@ -8,24 +8,15 @@ use Rattle.session.proofs.Laying.{start_at}
 use Rattle.session.proofs.Copying.{arrays_apart, copied_is}
 use Rattle.session.proofs.memory.Memory.copy.Goals as goal
 
-pub bounds-self-a : goal.bounds-self-a
-bounds-self-a g c = omega (arith, few_variables c.args.self.now.program, c.requires.arrays.1.0)
-
-pub bounds-self-x : goal.bounds-self-x
-bounds-self-x g c = omega (arith, few_variables c.args.self.now.program, c.requires.arrays.0.0)
-
-pub copy_cells-requires : goal.copy_cells-requires
-copy_cells-requires g c =
+pub copy_cells-requires-clause-apart : goal.copy_cells-requires-clause-apart
+copy_cells-requires-clause-apart g c =
     let me = c.args.self.now in
     let p = tables_of me in
     let few = few_variables me.program in
     let from = start_at p me.starts me.laid c.args.a (omega (arith, few, c.requires.arrays.1.0)) in
     let to = start_at p me.starts me.laid c.args.x (omega (arith, few, c.requires.arrays.0.0)) in
     let size = c.cells-n.ensures ∙ ap (λ (x : Variable). cells x.kind) c.variable.ensures ∙ c.requires.lengths in
-    record {
-      fits = (omega arith, omega arith);
-      apart = λ h. omega (arith, from, to, arrays_apart p c.args.x c.args.a c.requires.arrays.0.0 c.requires.arrays.1.0 c.requires.arrays.0.1 c.requires.arrays.1.1 (omega (arith, h, from, to, size)));
-    }
+    λ h. omega (arith, from, to, arrays_apart p c.args.x c.args.a c.requires.arrays.0.0 c.requires.arrays.1.0 c.requires.arrays.0.1 c.requires.arrays.1.1 (omega (arith, h, from, to, size)))
 
 pub returns : goal.returns
 returns g c =

@@ -1,12 +1,9 @@
-use Rattle.std.proofs.Common.{length, take, refl, ap, ◌∙◌}
+use Rattle.std.proofs.Common.{◌∙◌}
 use Rattle.session.specs.Memories.{tables_of, memory_of}
 use Rattle.session.proofs.Placing.{fetched_cell}
 use Rattle.session.proofs.memory.Memory.fetch.Goals as goal
 
-pub returns : goal.returns
-returns g c =
+pub returns-clause-value : goal.returns-clause-value
+returns-clause-value g c =
     let me = c.args.self.now in
-    record {
-      value = c.get.ensures.value ∙ fetched_cell (tables_of me) (memory_of g.B.Bank.cells me) c.args.a c.args.i c.cell-cell.result c.requires.1 c.cell-cell.ensures.inside c.cell-cell.ensures.outside;
-      kept = record { memory = ap (λ row. record { numbers = take (length (tables_of me).variables) me.numbers; cells = row }) c.get.ensures.kept; program = refl };
-    }
+    c.get.ensures.value ∙ fetched_cell (tables_of me) (memory_of g.B.Bank.cells me) c.args.a c.args.i c.cell-cell.result c.requires.1 c.cell-cell.ensures.inside c.cell-cell.ensures.outside

@@ -5,11 +5,8 @@ use Rattle.session.proofs.Laying.{start_last}
 use Rattle.session.proofs.Clearing.{opened_memory}
 use Rattle.session.proofs.memory.Memory.new.Goals as goal
 
-pub returns : goal.returns
-returns g c =
+pub returns-clause-memory : goal.returns-clause-memory
+returns-clause-memory g c =
     let p = (contents c.args.program).tables in
     let last = start_last p c.first_cells-starts.result c.first_cells-starts.ensures c.variable_count.result c.variable_count.ensures.count c.variable_count.ensures.few in
-    record {
-      memory = opened_memory p (g.B.Bank.cells c.args.bank) (g.B.Bank.cells c.clear.new.bank) _ _ (few_variables c.args.program) last refl c.clear.ensures;
-      program = refl;
-    }
+    opened_memory p (g.B.Bank.cells c.args.bank) (g.B.Bank.cells c.clear.new.bank) _ _ (few_variables c.args.program) last refl c.clear.ensures

@@ -1,10 +1,7 @@
-use Rattle.std.proofs.Common.{refl, arith}
+use Rattle.std.proofs.Common.{refl}
 use Rattle.session.specs.Memories.{tables_of}
-use Rattle.session.proofs.Reading.{few_variables, put_number}
+use Rattle.session.proofs.Reading.{put_number}
 use Rattle.session.proofs.memory.Memory.set_number.Goals as goal
-
-pub bounds-self-v : goal.bounds-self-v
-bounds-self-v g c = omega (arith, few_variables c.args.self.now.program, c.requires.0)
 
 pub returns : goal.returns
 returns g c =

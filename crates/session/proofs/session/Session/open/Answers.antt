@@ -7,9 +7,9 @@ use Rattle.session.proofs.session.Session.open.Goals as goal
 pub invariant_of-result : goal.invariant_of-result
 invariant_of-result g c = record { climbs = first_climbs c.new.result.program (pile c.new-2.result) c.new-2.ensures; clean = first_clean (pile c.new-2.result) c.new-2.ensures }
 
-pub returns : goal.returns
+pub returns-clause-state : goal.returns-clause-state
 unfolding opened
-returns g c =
+returns-clause-state g c =
     let m = c.new.ensures.memory in
     let st = c.new-2.ensures in
-    record { state = λ i. record { config = record { memory = m i; stack = st i }; started = false }; program = c.new.ensures.program }
+    λ i. record { config = record { memory = m i; stack = st i }; started = false }
