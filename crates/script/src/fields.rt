@@ -35,6 +35,7 @@ pub(crate) fn cut(text: &str) -> (&str, Option<&str>)
 }
 
 // Numbers up to the limits, one for each, that end the line.
+// They are of one type, and cast by the command within their limits: reads by type would need a `?` for each field.
 #[tactic(auto, using(crate::proofs::Limits::front_none, crate::proofs::Limits::fit, crate::proofs::Limits::short, crate::proofs::Limits::stuck, crate::proofs::Limits::ended))]
 pub(crate) fn numbers<const N: usize>(rest: Option<&str>, limits: [u64; N]) -> Option<[u64; N]>
     ensures value { result ≡ numbers limits.entry (fields rest.entry) }
