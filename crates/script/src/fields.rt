@@ -3,13 +3,13 @@ ghost use Rattle.std.specs.Prelude.{◌≡◌, ◌≤◌, ◌∷◌, slice_index
 ghost use Rattle.script.specs.Fields.{words_of, fields, field, numbers};
 
 // The largest fields of 8, 16, 32 and 64 bits.
-pub(crate) const BYTE: u64 = 255;
+pub(crate) const BYTE: u64 = u8::MAX as u64;
 
-pub(crate) const SHORT: u64 = 65_535;
+pub(crate) const SHORT: u64 = u16::MAX as u64;
 
-pub(crate) const WORD: u64 = 4_294_967_295;
+pub(crate) const WORD: u64 = u32::MAX as u64;
 
-pub(crate) const LONG: u64 = 18_446_744_073_709_551_615;
+pub(crate) const LONG: u64 = u64::MAX;
 
 // A word as a decimal number up to `most`.
 pub(crate) fn field(word: &str, most: u64) -> Option<u64>
@@ -35,6 +35,8 @@ pub(crate) fn cut(text: &str) -> (&str, Option<&str>)
 }
 
 // Numbers up to the limits, one for each, that end the line.
+// They are of one type, and cast by the command within their limits: reads by type would need a `?` for each field.
+#[tactic(auto, using(crate::proofs::Limits::front_none, crate::proofs::Limits::fit, crate::proofs::Limits::short, crate::proofs::Limits::stuck, crate::proofs::Limits::ended))]
 pub(crate) fn numbers<const N: usize>(rest: Option<&str>, limits: [u64; N]) -> Option<[u64; N]>
     ensures value { result ≡ numbers limits.entry (fields rest.entry) }
     ensures fit { IfSome result (λ ns. EachIndex ns (λ k. slice_index ns k ≤ slice_index limits.entry k)) }
