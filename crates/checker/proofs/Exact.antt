@@ -16,7 +16,7 @@ use Rattle.model.proofs.Linkers.{found_first}
 use Rattle.rules.specs.declared.faults.ShapeFault.TheVariants.{VariableLabel, LinkedOnce, Depth}
 use Rattle.rules.specs.declared.faults.RuleFault.{RuleFault}
 use Rattle.rules.specs.Shape.{is_number, is_array, present, right_kinds, same_length, link_fits, links_fit, record_refusal}
-use Rattle.checker.specs.Checks.{variables_refusal, records_refusal, once_refusal, depth_refusal, entries_refusal, shape_refusal, tables_fit}
+use Rattle.checker.specs.Checks.{variables_refusal, records_refusal, once_refusal, depth_refusal, entries_refusal, shape_refusal}
 use Rattle.rules.specs.Breaches.{breaks, first_broken, rules}
 use Rattle.checker.specs.Breaches.{labelled_at, fault_at, rules_refusal}
 use Rattle.rules.proofs.Records.{Passed, all_passed, by_none}
@@ -103,18 +103,6 @@ module _ (L : Labels) (p : Program) where
         once = once_passed c.1;
       }
 
-  fit_below : records_refusal L p.variables p.records (length p.records) ≡ None → (n : ℕ) → n ≤ length p.records → tables_fit p.variables p.records n ≡ true
-  unfolding tables_fit
-  fit_below e zero h = refl
-  fit_below e (suc j) h =
-      let t = record_passed e (suc j) (omega arith, h) in
-      and_from _ _ (fit_below e j (omega arith)) (and_from _ _ t.variables (and_from _ _ t.kinds (and_from _ _ t.links t.lengths)))
-
-  -- what no order has a part in
-  pub shape_fits : shape_refusal L p ≡ None → tables_fit p.variables p.records (length p.records) ≡ true
-  unfolding shape_refusal entries_refusal
-  shape_fits e = fit_below (both_none _ _ (both_none _ _ (both_none _ _ e).0).1).0 (length p.records) (omega arith)
-
   pub shape_sound : shape_refusal L p ≡ None → WellShaped L p
   unfolding shape_refusal entries_refusal
   shape_sound e =
@@ -151,10 +139,10 @@ module _ (L : Labels) (p : Program) where
 
   fault_none : (k : ℕ) (o : Option Rule) → fault_at k o ≡ None → o ≡ None
   fault_none k None e = refl
-  fault_none k (Some r) e = let z : ◌≡◌ {A = ℕ} 0 1 = cc in absurd (omega arith)
+  fault_none k (Some r) e = absurd cc
 
   fault_some : (k : ℕ) (o : Option Rule) (f : RuleFault) → fault_at k o ≡ Some f → (o ≡ Some f.rule) × (f.place ≡ k)
-  fault_some k None f e = let z : ◌≡◌ {A = ℕ} 0 1 = cc in absurd (omega arith)
+  fault_some k None f e = absurd cc
   fault_some k (Some r) f e =
       let w : ◌≡◌ {A = RuleFault} (record { rule = r; place = k }) f = cc in
       (ap (λ (f : RuleFault). Some f.rule) w, sym (ap (λ (f : RuleFault). f.place) w))

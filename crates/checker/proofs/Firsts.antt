@@ -9,10 +9,10 @@ use Rattle.refusal.proofs.First.{first_none, first_stop}
 
 passes : {F : Type 0} (c : Bool) (f : F) → not c ≡ false → expect c f ≡ None
 passes true f e = refl
-passes false f e = let z : ◌≡◌ {A = ℕ} 0 1 = cc in absurd (omega arith)
+passes false f e = absurd cc
 
 fails : {F : Type 0} (c : Bool) (f : F) → not c ≡ true → expect c f ≡ Some f
-fails true f e = let z : ◌≡◌ {A = ℕ} 0 1 = cc in absurd (omega arith)
+fails true f e = absurd cc
 fails false f e = refl
 
 -- the first index at which p passes, as `position` answers it

@@ -10,3 +10,4 @@ pub mod Joint
 pub mod Verdicts
 pub mod OnePlace
 pub mod Smallest
+pub mod Held

@@ -1,5 +1,5 @@
 -- The checks of the tables: refusals 20 to 27 in their order. Assumes nothing.
-use Rattle.std.specs.Prelude.{ℕ, zero, suc, ◌+◌, ◌-◌, Bool, true, ◌&&◌, List, length, Option, ◌==◌, nat_le}
+use Rattle.std.specs.Prelude.{ℕ, ◌+◌, ◌-◌, List, length, Option, ◌==◌, nat_le}
 use Rattle.std.specs.Option.{option_or}
 use Rattle.refusal.specs.Answers.{expect, first_below}
 use Rattle.sheet.specs.declared.tables.Variable.{Variable}
@@ -9,12 +9,7 @@ use Rattle.model.specs.Nesting.{record_at, times_linked, place}
 use Rattle.model.specs.Program.{Program, label_of}
 use Rattle.rules.specs.declared.faults.ShapeFault.{ShapeFault}
 use Rattle.rules.specs.declared.faults.ShapeFault.TheVariants.{VariableLabel, LinkedOnce, Depth}
-use Rattle.rules.specs.Shape.{record_fits, record_refusal}
-
--- what no label order has a part in holds of the first n records
-unfoldable pub tables_fit : List Variable → List Record → ℕ → Bool
-tables_fit vs rs zero = true
-tables_fit vs rs (suc j) = tables_fit vs rs j && record_fits vs (length rs) (suc j) (record_at rs (suc j))
+use Rattle.rules.specs.Shape.{record_refusal}
 
 -- of the first n variables
 unfoldable pub variables_refusal : Labels → List Variable → ℕ → Option ShapeFault

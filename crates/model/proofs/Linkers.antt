@@ -19,17 +19,17 @@ none_of false false false x y e = refl
 second_of : {X : Type 0} (a b c : Bool) (x y : X) → cond a 1 0 + (cond b 1 0 + (cond c 1 0 + 0)) ≤ 1 → (b || c) ≡ true → cond a (Some x) (cond (b || c) (Some y) None) ≡ Some y
 second_of true true c x y h e = absurd (omega arith)
 second_of true false true x y h e = absurd (omega arith)
-second_of true false false x y h e = let z : ◌≡◌ {A = Bool} false true = e in let w : ◌≡◌ {A = ℕ} 0 1 = cc in absurd (omega arith)
+second_of true false false x y h e = absurd cc
 second_of false b c x y h e = ap (λ t. cond t (Some y) None) e
 
 some_of : (a b c : Bool) → (b || c) ≡ true → 0 < cond a 1 0 + (cond b 1 0 + (cond c 1 0 + 0))
 some_of a true c e = omega arith
 some_of a false true e = omega arith
-some_of a false false e = let z : ◌≡◌ {A = Bool} false true = e in let w : ◌≡◌ {A = ℕ} 0 1 = cc in absurd (omega arith)
+some_of a false false e = absurd cc
 
 first_of : (a b c : Bool) → a ≡ true → 0 < cond a 1 0 + (cond b 1 0 + (cond c 1 0 + 0))
 first_of true b c e = omega arith
-first_of false b c e = let w : ◌≡◌ {A = ℕ} 0 1 = cc in absurd (omega arith)
+first_of false b c e = absurd cc
 
 -- records count from 1
 pub at_index : (rs : List Record) (j : ℕ) → record_at rs (j + 1) ≡ get_or rs j skip
@@ -60,7 +60,7 @@ module _ (rs : List Record) (well : Linked rs) where
 
 -- what was found first was found somewhere
 pub found_first : {X : Type 0} (f : ℕ → Option X) (n : ℕ) (x : X) → first_below f n ≡ Some x → (i : ℕ) × (i < n) × (f i ≡ Some x)
-found_first f zero x e = let z : ◌≡◌ {A = ℕ} 0 1 = cc in absurd (omega arith)
+found_first f zero x e = absurd cc
 found_first f (suc n) x e = go (first_below f n) refl (λ q. found_first f n x q)
   where
     go : (o : _) → first_below f n ≡ o → (first_below f n ≡ Some x → (i : ℕ) × (i < n) × (f i ≡ Some x)) → (i : ℕ) × (i < suc n) × (f i ≡ Some x)
@@ -76,7 +76,7 @@ source (branch_of k) = k
 link_source : (a b : Bool) (k : ℕ) (x : Link) → cond a (Some (next_of k)) (cond b (Some (branch_of k)) None) ≡ Some x → source x ≡ k
 link_source true b k x e = let z : next_of k ≡ x = cc in ap source (sym z)
 link_source false true k x e = let z : branch_of k ≡ x = cc in ap source (sym z)
-link_source false false k x e = let z : ◌≡◌ {A = ℕ} 0 1 = cc in absurd (omega arith)
+link_source false false k x e = absurd cc
 
 module _ (rs : List Record) where
   -- a linker is a lower record

@@ -52,10 +52,6 @@ link_fits n k l = l == 0 || (nat_lt k l && nat_le l n)
 abbrev pub links_fit : ℕ → ℕ → Record → Bool
 links_fit n k r = link_fits n k r.next && (link_fits n k (branches r.form).0 && link_fits n k (branches r.form).1)
 
--- 22, 23, 24 and 27 hold of record k, of n: what no label order has a part in
-abbrev pub record_fits : List Variable → ℕ → ℕ → Record → Bool
-record_fits vs n k r = present vs r.form && (right_kinds vs r.form && (links_fit n k r && same_length vs r.form))
-
 -- of record k, of n records
 unfoldable pub record_refusal : Labels → List Variable → ℕ → ℕ → Record → Option ShapeFault
 record_refusal L vs n k r =

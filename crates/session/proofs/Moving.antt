@@ -1,5 +1,5 @@
 -- A step moves the stack as the machine says, and the stack keeps climbing. Assumes nothing.
-use Rattle.std.proofs.Common.{◌≡◌, ℕ, zero, suc, ◌<◌, ◌≤◌, Bool, true, false, cond, ◌&&◌, eqb, ltb, leb, ◌⊎◌, List, [], ◌∷◌, length, sym, refl, ap, ◌∙◌, inl, inr, ⊎_elim, arith}
+use Rattle.std.proofs.Common.{◌≡◌, ℕ, zero, suc, ◌<◌, ◌≤◌, Bool, true, false, cond, ◌&&◌, eqb, ltb, leb, ◌⊎◌, List, [], ◌∷◌, length, sym, refl, ap, ◌∙◌, subst, inl, inr, ⊎_elim, arith}
 use Rattle.labels.specs.declared.order.LabelOrder as LabelOrder
 use Rattle.std.proofs.lemmas.Bool.{and_parts, and_from, or_cases, or_right, eqb-true, ltb-true, leb-true, lt-ltb, le-leb, cond_both}
 use Rattle.sheet.specs.declared.tables.Form.{Form}
@@ -10,11 +10,11 @@ use Rattle.model.specs.Program.{Program}
 use Rattle.model.specs.Machine.{Memory, held, holds, onward, stripped}
 use Rattle.checker.specs.declared.program.Program as checked
 use Rattle.checker.specs.Contents.{contents}
-use Rattle.rules.specs.Shape.{link_fits, record_fits}
+use Rattle.rules.specs.Shape.{link_fits}
 use Rattle.session.proofs.StackLaws.{clean_top, stripped_twice}
 use Rattle.session.specs.Memories.{records_in}
 use Rattle.session.specs.Piles.{piled, moved}
-use Rattle.session.proofs.Sound.{few_records, some_record, records_within, record_sound, fits_links, fits_runs}
+use Rattle.session.proofs.Sound.{few_records, some_record, record_runs, record_links}
 use Rattle.session.specs.Acting.{Runs}
 
 -- a zero on top is taken off
@@ -122,17 +122,14 @@ module _ {A : Type 0} {g : LabelOrder.Ghosts A} (q : checked.Program A g) (m : M
       let t = rises count (length rest) n parts.0 live in
       (live, t.0, t.1)
 
-  fit : record_fits p.variables size n r ≡ true
-  fit = let t = within in ap (record_fits p.variables size n) is ∙ record_sound q n t.0 t.2
-
   pub top_runs : Runs p r.form
-  top_runs = fits_runs p size n r fit
+  top_runs = let t = within in subst (λ (x : Record). Runs p x.form) (sym is) (record_runs q n t.0 t.2)
 
   links : (link_fits size n r.next ≡ true) × (link_fits size n (branches r.form).0 ≡ true) × (link_fits size n (branches r.form).1 ≡ true)
   links =
-      let t = and_parts (link_fits size n r.next) _ (fits_links p size n r fit) in
-      let u = and_parts (link_fits size n (branches r.form).0) (link_fits size n (branches r.form).1) t.1 in
-      (t.0, u.0, u.1)
+      let t = within in
+      subst (λ (x : Record). (link_fits size n x.next ≡ true) × (link_fits size n (branches x.form).0 ≡ true) × (link_fits size n (branches x.form).1 ≡ true)) (sym is)
+      (record_links q n t.0 t.2)
 
   abbrev place : ℕ
   place = (moved p n r.next r.form m).0
@@ -142,14 +139,14 @@ module _ {A : Type 0} {g : LabelOrder.Ghosts A} (q : checked.Program A g) (m : M
 
   above_within : 0 < above → (n < above) × (above ≤ count)
   unfolding Rises
-  above_within h = omega (arith, rises size n above (above_fits p n r.next size r.form m links.1 links.2) h, records_within q)
+  above_within h = omega (arith, rises size n above (above_fits p n r.next size r.form m links.1 links.2) h)
 
   place_within : 0 < place → (length rest < place) × (place ≤ count)
   unfolding Rises
   place_within h =
       let t = within in
       ⊎_elim (λ e. omega (arith, e, t))
-      (λ e. let l : 0 < r.next = omega (arith, e) in omega (arith, e, t, rises size n r.next links.0 l, records_within q))
+      (λ e. let l : 0 < r.next = omega (arith, e) in omega (arith, e, t, rises size n r.next links.0 l))
       (place_cases p n r.next r.form m)
 
   -- room for one more

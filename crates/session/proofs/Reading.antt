@@ -1,5 +1,5 @@
 -- How the places of variables are read and set. Assumes nothing.
-use Rattle.std.proofs.Common.{◌≡◌, ℕ, ◌≤◌, List, length, get_or, take, set, sym, ap, arith, length-take, get_or-take}
+use Rattle.std.proofs.Common.{◌≡◌, ℕ, ◌≤◌, List, length, get_or, take, set, sym, ap, get_or-take}
 use Rattle.labels.specs.declared.order.LabelOrder as LabelOrder
 use lib.Seq.{take-set-lt}
 use Rattle.model.specs.Program.{Program, IsVariable}
@@ -10,7 +10,7 @@ use Rattle.checker.specs.Contents.{contents}
 
 -- a program has at most 64 variables
 pub few_variables : {A : Type 0} {g : LabelOrder.Ghosts A} (q : checked.Program A g) → length (contents q).tables.variables ≤ 64
-few_variables q = omega (arith, length-take q.variable_count q.variables, q.fits)
+few_variables q = q.tables.fits.0
 
 module _ (p : Program) (numbers cells : List ℕ) (v : ℕ) (there : IsVariable p v) (number : IsNumber p v) where
   abbrev here : Memory

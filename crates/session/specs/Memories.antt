@@ -15,7 +15,7 @@ tables_of m = (contents m.program).tables
 
 -- how many records a program has
 abbrev pub records_in : {A : Type 0} {g : LabelOrder.Ghosts A} → checked.Program A g → ℕ
-records_in q = q.record_count
+records_in q = length (contents q).tables.records
 
 -- its program's order
 abbrev pub order_of : {O B : Type 0} {o : LabelOrder.Ghosts O} → Memory O B o → O

@@ -26,6 +26,6 @@ checked_secret L W bs e = go (sheet_refusal bs) (accept_refusal L (sheet_program
     go : (o : Option SheetFault) (q : Option Refusal) → sheet_refusal bs ≡ o → accept_refusal L (sheet_program bs) ≡ q →
         is_ok {T = Sizes} (answer (option_or (option_map sheet_refusal_of o) q) (record { variables = variable_count_of bs; records = record_count_of bs })) ≡ true →
         Accepted L (sheet_program bs) × Secrecy L (sheet_program bs)
-    go (Some f) q a b e = let z : ◌≡◌ {A = ℕ} 0 1 = cc in absurd (omega arith)
-    go None (Some f) a b e = let z : ◌≡◌ {A = ℕ} 0 1 = cc in absurd (omega arith)
+    go (Some f) q a b e = absurd cc
+    go None (Some f) a b e = absurd cc
     go None None a b e = (verdict L W (sheet_program bs) (answer (accept_refusal L (sheet_program bs)) tt) refl).sound (ap (λ o. answer o tt) b)
