@@ -1,5 +1,5 @@
 -- The layers of a verdict, one after the other. Assumes nothing.
-use Rattle.std.proofs.Common.{◌≡◌, ℕ, true, List, is_ok, Some, None, Option, refl, ap, arith}
+use Rattle.std.proofs.Common.{◌≡◌, ℕ, true, List, is_ok, Some, None, Option, refl, ap}
 use Rattle.std.specs.Option.{option_map, option_or}
 use Rattle.refusal.specs.declared.Refusal.{Refusal}
 use Rattle.refusal.specs.Answers.{answer}
