@@ -9,6 +9,7 @@ use refusal::Refusal;
 use std::alloc::AllocError;
 use tape::LogFault;
 
+// One From for all that convert to a refusal would conflict with that of AllocError, so each has its own.
 impl From<Refusal> for CompareFault {
     ghost from_gives = { λ f r. r ≡ Refused f };
 

@@ -18,6 +18,7 @@ pub enum Fault {
     Io(io::Error),
 }
 
+// One From for all that convert to a refusal would conflict with that of AllocError, so each has its own.
 impl From<Refusal> for Fault {
     fn from(refusal: Refusal) -> Fault {
         Fault::Refused(refusal)

@@ -21,6 +21,7 @@ pub(crate) enum Fault {
     NoRoom(usize),
 }
 
+// One From for all that convert to a refusal would conflict with that of AllocError, so each has its own.
 impl From<Refusal> for Fault {
     ghost from_gives = { λ r f. f ≡ Refused r };
 

@@ -311,7 +311,7 @@ pub const RECORDS: [Record; 19] = [
     },
 ];
 
-// The name of a variable.
+// The name of a variable, which a sheet knows by its number alone.
 pub fn name(variable: u8) -> &'static str {
     match variable {
         MARGINS => "margins",

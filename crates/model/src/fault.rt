@@ -26,7 +26,7 @@ pub enum SessionFault {
 }
 
 impl SessionFault {
-    // The number of the refusal.
+    // The number of the refusal. A variant may carry a place, so its number is no discriminant.
     pub fn number(self) -> u8
         ensures { result ≡ session_number self }
     {
@@ -54,6 +54,7 @@ impl SessionFault {
     }
 }
 
+// Written out for each layer: a trait of faults with one From would want as many lines of each.
 impl From<SessionFault> for Refusal {
     ghost from_gives = { λ f r. r ≡ session_refusal_of f };
 

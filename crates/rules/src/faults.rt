@@ -34,7 +34,7 @@ pub struct RuleFault {
 }
 
 impl ShapeFault {
-    // The number of the refusal.
+    // The number of the refusal. A variant may carry a place, so its number is no discriminant.
     pub fn number(self) -> u8
         ensures { result ≡ shape_number self }
     {
@@ -67,6 +67,7 @@ impl ShapeFault {
     }
 }
 
+// Written out for each layer: a trait of faults with one From would want as many lines of each.
 impl From<ShapeFault> for Refusal {
     ghost from_gives = { λ f r. r ≡ shape_refusal_of f };
 

@@ -15,6 +15,7 @@ use labels::LabelOrder;
 pub struct Session<O: LabelOrder, B> {
     memory: Memory<O, B>,
     stack: Stack,
+    // A flag, and no type of its own: a host may make its calls in any order, and is refused.
     started: bool,
     ghost climbs: { piled (records_in memory.program) (pile stack) ≡ true },
     ghost clean: { stripped (pile stack) ≡ pile stack },

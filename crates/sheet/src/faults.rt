@@ -34,7 +34,7 @@ pub enum SheetFault {
 }
 
 impl SheetFault {
-    // The number of the refusal.
+    // The number of the refusal. A variant may carry a place, so its number is no discriminant.
     pub fn number(self) -> u8
         ensures { result ≡ fault_number self }
     {
@@ -75,6 +75,7 @@ impl SheetFault {
     }
 }
 
+// Written out for each layer: a trait of faults with one From would want as many lines of each.
 impl From<SheetFault> for Refusal {
     ghost from_gives = { λ f r. r ≡ sheet_refusal_of f };
 

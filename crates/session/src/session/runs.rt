@@ -42,7 +42,8 @@ impl<O: LabelOrder, B: Bank> Session<O, B> {
         }
     }
 
-    // Steps until the run has ended, as many steps were taken as are asked for, or the tape is full.
+    // Steps until the run has ended, as many steps were taken as are asked for, or the tape is full. The loop counts the
+    // steps by hand: how many there will be is not known before, and the report tells it.
     pub(crate) fn run_steps(&mut self, limit: u64, tape: &mut [Entry]) -> RunReport
         ensures report { result ≡ reported (steps (O.meaning (order_of self.old.memory)) (tables_of self.old.memory) limit (length tape.old) (config_of B.cells self.old)) }
         ensures config { config_of B.cells self.new ≡ (steps (O.meaning (order_of self.old.memory)) (tables_of self.old.memory) limit (length tape.old) (config_of B.cells self.old)).config }

@@ -43,7 +43,7 @@ impl Stack {
         }
     }
 
-    // Takes zeros off.
+    // Takes zeros off. The library takes no values from an end by a test, so this is a loop.
     fn strip(&mut self)
         ensures { pile self.new ≡ stripped (pile self.old) }
     {
