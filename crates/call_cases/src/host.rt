@@ -42,13 +42,13 @@ impl Host {
         match word {
             "two-party" => self.set_order(AnyOrder::Two(TwoParty)),
             "known" => known(self.heap, &self.order),
-            "words" => take_words(self.heap, std::mem::replace(&mut self.bank, None)),
+            "words" => take_words(self.heap, self.bank.take()),
             "flat" | "read" => self.call(word, &[]),
             _ => Err(Fault::Unreadable),
         }
     }
 
-    // The answer to a word with numbers.
+    // The answer to a word with numbers. The words are a closed set, and a match reads like their list.
     fn call(&mut self, word: &str, numbers: &[u32]) -> Result<Answer, Fault> {
         match word {
             "layout" => layout(self.heap, numbers),

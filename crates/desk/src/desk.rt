@@ -122,6 +122,7 @@ impl<W: Write> Desk<W> {
         }
     }
 
+    // The commands are a closed set, and the match is checked to have them all.
     fn perform(&mut self, command: Command) -> Result<(), Fault> {
         match command {
             Command::OrderTwo => self.set_order(AnyOrder::Two(TwoParty)),

@@ -158,7 +158,7 @@ fn pick(rest: Option<&str>) -> Option<Command<'_>>
     })
 }
 
-// The command of a name and what stands behind it.
+// The command of a name and what stands behind it. The names are a closed set, and a match reads like their list.
 #[tactic(auto, using(crate::proofs::Names::named))]
 fn read_command<'a>(name: &str, rest: Option<&'a str>) -> Option<Command<'a>>
     ensures { option_map asked result ≡ asks (name.now ∷ fields rest.entry) }

@@ -87,7 +87,7 @@ impl<O: LabelOrder, B: Bank> Memory<O, B> {
         copy_cells(&mut self.bank, source, target, n);
     }
 
-    // What variable v holds at index i.
+    // What variable v holds at index i; there are these two kinds and no others, so a match decides.
     pub(crate) fn look(&mut self, v: u8, i: u32) -> u32
         requires { has_place (tables_of self.old) v i ≡ true }
         ensures value { result ≡ held (tables_of self.old) (memory_of B.cells self.old) v i }

@@ -107,7 +107,8 @@ impl<'a, O: LabelOrder, B: Bank> Turn<'a, O, B> {
         self.read(a);
     }
 
-    // Does what a record of this form does, besides its place on the stack.
+    // Does what a record of this form does, besides its place on the stack. The forms are a closed set, and the match is
+    // checked to have them all.
     pub(crate) fn act(&mut self, form: Form)
         requires { MayAct form self.old }
         ensures { Acts O.meaning B.cells form self.old self.new }
