@@ -23,6 +23,7 @@ fn collect<T: Default + Drop, const N: usize, F: Fn(usize) -> T>(
     ensures { (f : ℕ → T) → ((k : ℕ) (x : T) → F.post entry k x → x ≡ f k) → result.items ≡ map f (range_with_len 0 count) }
 {
     let mut table = ArrayVec::new();
+    // `extend` over the range would answer a Result, which is never an error here.
     for k in 0..count {
         table.push(entry(k));
     }

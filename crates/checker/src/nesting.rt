@@ -8,7 +8,6 @@ ghost use Rattle.checker.specs.Accepting.{program};
 
 use crate::nested::Nested;
 use crate::tables::Tables;
-use crate::walk::nest;
 use arrayvec::ArrayVec;
 use labels::LabelOrder;
 use model::Place;
@@ -24,7 +23,11 @@ impl<'a> Nested<'a> {
     {
         let mut places = ArrayVec::from([Place::default(); 512]);
         places.truncate(tables.records.len());
-        nest(&tables.records, &mut places);
+        let main = Place {
+            enclosing: 0,
+            depth: 1,
+        };
+        tables.walk(1, main, &mut places);
         Nested { tables, places }
     }
 
