@@ -3,7 +3,7 @@ ghost use Rattle.std.specs.Prelude.{◌≡◌, ℕ, ◌+◌, ◌-◌, ◌<◌, �
 ghost use Rattle.refusal.specs.Answers.{answer};
 ghost use Rattle.model.specs.Nesting.{count, links, times_linked};
 ghost use Rattle.checker.specs.Checks.{variables_refusal, records_refusal, once_refusal, entries_refusal};
-ghost use Rattle.checker.specs.Accepting.{program};
+ghost use Rattle.checker.specs.Accepting.{tables_in};
 
 use crate::tables::Tables;
 use labels::LabelOrder;
@@ -84,7 +84,7 @@ impl Tables {
 
     // What of the shape is asked before the places of the records are known.
     pub(crate) fn check_entries<O: LabelOrder>(&self, order: &O) -> Result<(), ShapeFault>
-        ensures { result ≡ answer (entries_refusal (O.meaning order.now) (program self.now.variables.items self.now.records.items)) tt }
+        ensures { result ≡ answer (entries_refusal (O.meaning order.now) (tables_in self.now)) tt }
     {
         self.check_variables(order)?;
         self.check_records(order)?;
