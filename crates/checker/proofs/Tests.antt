@@ -1,13 +1,9 @@
 -- Tests of each index in turn, and what it means that all passed. Assumes nothing.
-use Rattle.std.proofs.Common.{◌≡◌, ℕ, ◌+◌, ◌<◌, ◌≤◌, Bool, true, false, cond, ◌&&◌, eqb, ltb, leb, List, [], length, get_or, take, Some, sym, ap, ◌∙◌, inl, inr, ⊎_elim, arith}
-use Rattle.std.specs.List.{flat_map, slice_get}
+use Rattle.std.proofs.Common.{◌≡◌, ℕ, ◌+◌, ◌<◌, ◌≤◌, Bool, true, false, cond, eqb, List, [], length, get_or, take, sym, ap, ◌∙◌, arith}
+use Rattle.std.specs.List.{flat_map}
 use Rattle.std.proofs.lemmas.List.{take_more, flat_map_more}
-use Rattle.std.proofs.lemmas.Bool.{and_parts, or_cases, eqb-true, ltb-true, leb-true}
-use Rattle.std.proofs.lemmas.Option.{slice_get-get_or}
 use Rattle.sheet.specs.declared.tables.Record.{Record}
-use Rattle.model.specs.declared.place.Place.{Place}
-use Rattle.model.specs.Nesting.{Rises, count, links, branches, skip, record_at, place}
-use Rattle.rules.specs.Shape.{link_fits}
+use Rattle.model.specs.Nesting.{count, links, branches, skip, record_at}
 use Rattle.model.proofs.Linkers.{at_index}
 use Rattle.model.proofs.Counts.{count_append}
 
@@ -27,10 +23,3 @@ few_links k r = omega (arith, one (eqb r.next k), one (eqb (branches r.form).0 k
     one : (b : Bool) → cond b 1 0 ≤ 1
     one true = omega arith
     one false = omega arith
-
-pub fits_rise : (n k l : ℕ) → link_fits n k l ≡ true → Rises n k l
-fits_rise n k l e =
-    ⊎_elim (λ z. inl (eqb-true _ _ z)) (λ b. let p = and_parts (ltb k l) (leb l n) b in inr (ltb-true _ _ p.0, leb-true _ _ p.1)) (or_cases (eqb l 0) (ltb k l && leb l n) e)
-
-pub place_read : (rs : List Record) (out : List Place) (j : ℕ) (d : Place) → j < length out → slice_get out j ≡ Some (place rs (j + 1)) → get_or out j d ≡ place rs (j + 1)
-place_read rs out j d h e = let n = slice_get-get_or out j d h in cc

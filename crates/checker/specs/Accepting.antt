@@ -15,11 +15,16 @@ use Rattle.model.specs.Program.{Program, IsRecord, no_variable}
 use Rattle.model.specs.Rules.{WellShaped, Keeps, Accepted}
 use Rattle.model.specs.Secrecy.{Secrecy}
 use Rattle.rules.specs.Faults.{shape_refusal_of, rule_refusal_of, rule_number}
+use Rattle.checker.specs.declared.tables.Tables.{Tables}
 use Rattle.checker.specs.Checks.{shape_refusal}
 use Rattle.checker.specs.Breaches.{rules_refusal}
 
 abbrev pub program : List Variable → List Record → Program
 program vs rs = record { variables = vs; records = rs }
+
+-- two tables in place, as lists
+abbrev pub tables_in : Tables → Program
+tables_in t = program t.variables.items t.records.items
 
 -- The tables of a sheet
 

@@ -2,7 +2,7 @@
 ghost use Rattle.std.specs.Prelude.{◌≡◌, ℕ, ◌+◌, ◌<◌, ◌≤◌, map, length, is_ok, if◌then◌else◌};
 ghost use Rattle.std.specs.List.{range_with_len};
 ghost use Rattle.refusal.specs.Answers.{answer};
-ghost use Rattle.checker.specs.Accepting.{program, sheet_program, accept_refusal, Verdict, IsMisshapen};
+ghost use Rattle.checker.specs.Accepting.{tables_in, sheet_program, accept_refusal, Verdict, IsMisshapen};
 ghost use Rattle.checker.specs.Contents.{contents, holding, smallest};
 
 use crate::nested::Nested;
@@ -23,6 +23,7 @@ fn collect<T: Default + Drop, const N: usize, F: Fn(usize) -> T>(
     ensures { (f : ℕ → T) → ((k : ℕ) (x : T) → F.post entry k x → x ≡ f k) → result.items ≡ map f (range_with_len 0 count) }
 {
     let mut table = ArrayVec::new();
+    // `extend` over the range would answer a Result, which is never an error here.
     for k in 0..count {
         table.push(entry(k));
     }
@@ -32,7 +33,7 @@ fn collect<T: Default + Drop, const N: usize, F: Fn(usize) -> T>(
 impl Tables {
     // The tables of a sheet.
     fn of_sheet(sheet: &ReadSheet) -> Tables
-        ensures { program result.variables.items result.records.items ≡ sheet_program sheet.now.bytes.now }
+        ensures { tables_in result ≡ sheet_program sheet.now.bytes.now }
     {
         Tables {
             variables: collect(sheet.variables(), |k| sheet.variable(k).unwrap_or_default()),
@@ -42,7 +43,7 @@ impl Tables {
 
     // The shape, then the rules.
     fn check<O: LabelOrder>(&self, order: &O) -> Result<(), Refusal>
-        ensures { result ≡ answer (accept_refusal (O.meaning order.now) (program self.now.variables.items self.now.records.items)) tt }
+        ensures { result ≡ answer (accept_refusal (O.meaning order.now) (tables_in self.now)) tt }
     {
         self.check_entries(order)?;
         let nested = Nested::of(self);

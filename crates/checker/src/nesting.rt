@@ -4,11 +4,10 @@ ghost use Rattle.refusal.specs.Answers.{answer};
 ghost use Rattle.model.specs.Nesting.{Linked};
 ghost use Rattle.checker.specs.Checks.{depth_refusal};
 ghost use Rattle.checker.specs.Breaches.{rules_refusal};
-ghost use Rattle.checker.specs.Accepting.{program};
+ghost use Rattle.checker.specs.Accepting.{tables_in};
 
 use crate::nested::Nested;
 use crate::tables::Tables;
-use crate::walk::nest;
 use arrayvec::ArrayVec;
 use labels::LabelOrder;
 use model::Place;
@@ -24,7 +23,11 @@ impl<'a> Nested<'a> {
     {
         let mut places = ArrayVec::from([Place::default(); 512]);
         places.truncate(tables.records.len());
-        nest(&tables.records, &mut places);
+        let main = Place {
+            enclosing: 0,
+            depth: 1,
+        };
+        tables.walk(1, main, &mut places);
         Nested { tables, places }
     }
 
@@ -40,7 +43,7 @@ impl<'a> Nested<'a> {
 
     // Refuses the first record that breaks a rule.
     pub(crate) fn check_rules<O: LabelOrder>(&self, order: &O) -> Result<(), RuleFault>
-        ensures { result ≡ answer (rules_refusal (O.meaning order.now) (program self.now.tables.now.variables.items self.now.tables.now.records.items) (length self.now.tables.now.records.items)) tt }
+        ensures { result ≡ answer (rules_refusal (O.meaning order.now) (tables_in self.now.tables.now) (length self.now.tables.now.records.items)) tt }
     {
         let tables = self.tables;
         for (j, (entry, place)) in tables.records.iter().zip(&self.places).enumerate() {

@@ -1,6 +1,6 @@
 // An accepted program: its order and its tables.
 ghost use Rattle.std.specs.Prelude.{◌≡◌, true};
-ghost use Rattle.checker.specs.Accepting.{program, is_accepted};
+ghost use Rattle.checker.specs.Accepting.{tables_in, is_accepted};
 
 use crate::tables::Tables;
 use labels::LabelOrder;
@@ -10,5 +10,5 @@ use labels::LabelOrder;
 pub struct Program<O: LabelOrder> {
     pub(crate) order: O,
     pub(crate) tables: Tables,
-    ghost accepted: { is_accepted (O.meaning order) (program tables.variables.items tables.records.items) ≡ true },
+    ghost accepted: { is_accepted (O.meaning order) (tables_in tables) ≡ true },
 }

@@ -3,7 +3,7 @@ ghost use Rattle.std.specs.Prelude.{◌≡◌, ℕ, ◌+◌, ◌-◌, ◌<◌, �
 ghost use Rattle.refusal.specs.Answers.{answer};
 ghost use Rattle.model.specs.Nesting.{count, links, times_linked};
 ghost use Rattle.checker.specs.Checks.{variables_refusal, records_refusal, once_refusal, entries_refusal};
-ghost use Rattle.checker.specs.Accepting.{program};
+ghost use Rattle.checker.specs.Accepting.{tables_in};
 
 use crate::tables::Tables;
 use labels::LabelOrder;
@@ -32,16 +32,6 @@ fn count_record(counts: &mut [u16], entry: Record)
     count_link(counts, entry.next);
 }
 
-// How often each record is linked, in one pass over the records.
-fn count_links(records: &[Record], counts: &mut [u16])
-    requires { (length records.now ≤ 512) × (((k : ℕ) → k < length counts.old → slice_index counts.old k ≡ 0)) }
-    ensures { (k : ℕ) → k < length counts.old → slice_index counts.new k ≡ times_linked records.now k }
-{
-    for entry in records {
-        count_record(counts, *entry);
-    }
-}
-
 impl Tables {
     // 20: the label of each variable is known.
     fn check_variables<O: LabelOrder>(&self, order: &O) -> Result<(), ShapeFault>
@@ -67,12 +57,22 @@ impl Tables {
         Ok(())
     }
 
+    // How often each record is linked, by its number, in one pass over the records.
+    fn count_links(&self) -> [u16; 513]
+        ensures { (k : ℕ) → k < length result → slice_index result k ≡ times_linked self.now.records.items k }
+    {
+        let mut counts = [0; 513];
+        for entry in self.records.iter() {
+            count_record(&mut counts, *entry);
+        }
+        counts
+    }
+
     // 25: each record from 2 up is linked exactly once.
     fn check_linked_once(&self) -> Result<(), ShapeFault>
         ensures { result ≡ answer (once_refusal self.now.records.items (length self.now.records.items - 1)) tt }
     {
-        let mut counts = [0u16; 513];
-        count_links(&self.records, &mut counts);
+        let counts = self.count_links();
         match counts[2..self.records.len() + 1]
             .iter()
             .position(|times| *times != 1)
@@ -84,7 +84,7 @@ impl Tables {
 
     // What of the shape is asked before the places of the records are known.
     pub(crate) fn check_entries<O: LabelOrder>(&self, order: &O) -> Result<(), ShapeFault>
-        ensures { result ≡ answer (entries_refusal (O.meaning order.now) (program self.now.variables.items self.now.records.items)) tt }
+        ensures { result ≡ answer (entries_refusal (O.meaning order.now) (tables_in self.now)) tt }
     {
         self.check_variables(order)?;
         self.check_records(order)?;

@@ -3,7 +3,6 @@ use Rattle.std.specs.List.{slice_range}
 use Rattle.std.specs.Option.{option_map}
 use Rattle.std.proofs.lemmas.Iterator.{YieldsList-from_slice}
 use Rattle.std.proofs.lemmas.Iterator.Search.{position_from_yields_List}
-use Rattle.std.proofs.lemmas.List.{get_or-replicate}
 use Rattle.std.proofs.lemmas.Grind.{common_steps}
 use Rattle.sheet.specs.declared.tables.Record.{Record}
 use Rattle.refusal.specs.Answers.{answer}
@@ -28,21 +27,18 @@ by_first rs times some long is =
     ap (λ n. not (eqb n 1)) (sym (from_two times (length rs) j long some (omega arith) ∙ is (j + 2) (omega arith))))
     (length rs - 1) (long_from_two times (length rs) long some)
 
-pub count_links-requires : goal.count_links-requires
-count_links-requires c = (omega (arith, c.deref.ensures), λ k h. get_or-replicate 513 k 0 0 h)
-
 pub returns-in-Some : goal.returns-in-Some
 returns-in-Some c =
     let rs = c.args.self.now.records.items in
-    let times = c.count_links.new.counts in
+    let times = c.count_links-counts.result in
     let rest = slice_range times 2 (length rs + 1) in
-    by_first rs times (omega arith) (omega arith) (λ k h. c.count_links.ensures k (omega arith) ∙ ap (λ rs. times_linked rs k) c.deref.ensures.0) _
+    by_first rs times (omega arith) (omega arith) c.count_links-counts.ensures _
     (position_from_yields_List {all = rest} _ _ _ _ c.in-Some.ensures.ran (YieldsList-from_slice rest (c.iter.ensures.rest ∙ ap (λ n. slice_range times 2 (n + 1)) c.len.ensures.value)) (λ x b q k. search (rules, tests)))
 
 pub returns-in-None : goal.returns-in-None
 returns-in-None c =
     let rs = c.args.self.now.records.items in
-    let times = c.count_links.new.counts in
+    let times = c.count_links-counts.result in
     let rest = slice_range times 2 (length rs + 1) in
-    by_first rs times (omega arith) (omega arith) (λ k h. c.count_links.ensures k (omega arith) ∙ ap (λ rs. times_linked rs k) c.deref.ensures.0) _
+    by_first rs times (omega arith) (omega arith) c.count_links-counts.ensures _
     (position_from_yields_List {all = rest} _ _ _ _ c.in-None.ensures.ran (YieldsList-from_slice rest (c.iter.ensures.rest ∙ ap (λ n. slice_range times 2 (n + 1)) c.len.ensures.value)) (λ x b q k. search (rules, tests)))

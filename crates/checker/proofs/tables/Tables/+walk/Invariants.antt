@@ -1,7 +1,7 @@
 use Rattle.std.proofs.Common.{length}
 use Rattle.checker.proofs.Walks.{left}
-use Rattle.checker.proofs.walk.+walk.Given as goal
+use Rattle.checker.proofs.tables.Tables.+walk.Given as goal
 
 -- the records left
 abbrev pub decreases-walk : goal.decreases-walk
-decreases-walk l = left (length l.records.now) l.k
+decreases-walk l = left (length l.self.now.records.items) l.k
