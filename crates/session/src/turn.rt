@@ -3,7 +3,8 @@ use crate::memory::Memory;
 use labels::LabelOrder;
 use tape::Entry;
 
-// The record's number and label, the memory that it changes, and the tape that it writes from `at` on.
+// The record's number and label, the memory that it changes, and the tape that it writes from `at` on. The room that is
+// left shrinks with each entry, so each call asks for its own.
 #[derive(Drop)]
 pub(crate) struct Turn<'a, O: LabelOrder, B> {
     pub(crate) number: u16,

@@ -16,7 +16,7 @@ use sheet::Form;
 use tape::Entry;
 
 impl<O: LabelOrder, B: Bank> Session<O, B> {
-    // What takes the place of record n on the stack, and what is put above that, 0 for nothing.
+    // What takes the place of record n on the stack, and what is put above that; 0 is no record, as in a link.
     fn moved(&self, n: u16, next: u16, form: Form) -> (u16, u16)
         requires { Runs (tables_of self.now.memory) form }
         ensures { result ≡ moved (tables_of self.now.memory) n next form (memory_of B.cells self.now.memory) }
