@@ -49,6 +49,7 @@ impl Host {
     }
 
     // The answer to a word with numbers. The words are a closed set, and a match reads like their list.
+    // The heap is a parameter of what allocates.
     fn call(&mut self, word: &str, numbers: &[u32]) -> Result<Answer, Fault> {
         match word {
             "layout" => layout(self.heap, numbers),

@@ -54,9 +54,9 @@ pub fn layout(heap: Global, numbers: &[u32]) -> Result<Answer, Fault> {
     let [size, count, rows @ ..] = numbers else {
         return Err(Fault::Unreadable);
     };
-    let Some((variables, records)) = rows.split_at_checked(3 * (*count as usize)) else {
-        return Err(Fault::Unreadable);
-    };
+    let (variables, records) = rows
+        .split_at_checked(3 * (*count as usize))
+        .ok_or(Fault::Unreadable)?;
     let variables = bytes_of(heap, variables, &VARIABLE)?;
     let records = bytes_of(heap, records, &RECORD)?;
     let typed_variables: Option<Vec<Variable>> = variables

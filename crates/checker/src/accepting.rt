@@ -78,6 +78,7 @@ impl<O: LabelOrder> Program<O> {
     }
 }
 
+// The promises of `accept` are proved over these equations, so they stand here too.
 fn take_over<O: LabelOrder>(
     sheet: &ReadSheet,
     order: &O,

@@ -1,4 +1,4 @@
-// Performing calls.
+// Performing calls. The heap is a parameter of what allocates, so it goes with the session.
 ghost use Rattle.std.specs.Prelude.{◌≡◌, true, is_ok, IfOk};
 ghost use Rattle.model.specs.Session.{run, after};
 ghost use Rattle.session.specs.Memories.{tables_of, order_of};

@@ -90,15 +90,10 @@ impl<W: Write> Desk<W> {
     // Plays one line. A line that cannot be read, or that is refused, is answered and ends nothing.
     pub fn play(&mut self, line: &[u8]) -> io::Result<()> {
         self.line = self.line.saturating_add(1);
-        let number = self.line;
         match self.answer(line) {
             Ok(()) => Ok(()),
-            Err(Fault::Unreadable) => writeln!(self.out, "unreadable {number}"),
-            Err(Fault::NoOrder) => writeln!(self.out, "no order"),
-            Err(Fault::NoSession) => writeln!(self.out, "no session"),
-            Err(Fault::NothingToOpen) => writeln!(self.out, "nothing to open"),
-            Err(Fault::Refused(refusal)) => writeln!(self.out, "{refusal}"),
             Err(Fault::Io(e)) => Err(e),
+            Err(fault) => writeln!(self.out, "{fault}"),
         }
     }
 
@@ -107,19 +102,15 @@ impl<W: Write> Desk<W> {
     }
 
     fn answer(&mut self, line: &[u8]) -> Result<(), Fault> {
-        let Ok(text) = std::str::from_utf8(line) else {
-            return Err(Fault::Unreadable);
-        };
+        let text = std::str::from_utf8(line).map_err(|_| Fault::Unreadable(self.line))?;
         if text.is_empty() || text.starts_with('#') {
             return Ok(());
         }
         if let Some(waiting) = self.waiting {
             return self.give(text, waiting);
         }
-        match parse_line(text) {
-            Some(command) => self.perform(command),
-            None => Err(Fault::Unreadable),
-        }
+        let command = parse_line(text).ok_or(Fault::Unreadable(self.line))?;
+        self.perform(command)
     }
 
     // The commands are a closed set, and the match is checked to have them all.
@@ -177,7 +168,7 @@ impl<W: Write> Desk<W> {
     fn sheet(&mut self, digits: &str) -> Result<(), Fault> {
         let order = self.order()?;
         let text = if digits == "-" { "" } else { digits };
-        let bytes = decode(self.heap, text.as_bytes())?.ok_or(Fault::Unreadable)?;
+        let bytes = decode(self.heap, text.as_bytes())?.ok_or(Fault::Unreadable(self.line))?;
         let mut program = Program::new(order);
         let sizes = read_and_accept(bytes.as_slice(), &order, &mut program)?;
         self.program = Some(program);
@@ -187,7 +178,7 @@ impl<W: Write> Desk<W> {
 
     // The words of a bank.
     fn words(&self, text: Option<&str>) -> Result<Vec<u32>, Fault> {
-        words(self.heap, text)?.ok_or(Fault::Unreadable)
+        words(self.heap, text)?.ok_or(Fault::Unreadable(self.line))
     }
 
     fn flat(&mut self, text: Option<&str>) -> Result<(), Fault> {
@@ -207,6 +198,7 @@ impl<W: Write> Desk<W> {
         Ok(())
     }
 
+    // Neither the program nor the bank is taken unless both are there.
     fn open(&mut self) -> Result<(), Fault> {
         if self.program.is_none() || self.bank.is_none() {
             return Err(Fault::NothingToOpen);
@@ -277,7 +269,7 @@ impl<W: Write> Desk<W> {
 
     // One entry of a pick.
     fn give(&mut self, text: &str, waiting: Waiting) -> Result<(), Fault> {
-        let entry = parse_entry(text).ok_or(Fault::Unreadable)?;
+        let entry = parse_entry(text).ok_or(Fault::Unreadable(self.line))?;
         self.given.push(entry)?;
         if self.given.len() < waiting.count {
             return Ok(());

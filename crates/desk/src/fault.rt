@@ -3,19 +3,33 @@ use labels::OrderFault;
 use model::SessionFault;
 use refusal::Refusal;
 use std::alloc::{AllocError, AllocFailed};
+use std::fmt;
 use std::io;
 use tape::LogFault;
 
 #[derive(Drop)]
 pub enum Fault {
-    // The line cannot be read.
-    Unreadable,
+    // The line of this number cannot be read.
+    Unreadable(u64),
     NoOrder,
     NoSession,
     NothingToOpen,
     Refused(Refusal),
     // The output failed, or there was not enough memory.
     Io(io::Error),
+}
+
+impl fmt::Display for Fault {
+    fn fmt<W: fmt::Write>(&self, f: &mut fmt::Formatter<W>) -> fmt::Result {
+        match self {
+            Fault::Unreadable(line) => write!(f, "unreadable {line}"),
+            Fault::NoOrder => write!(f, "no order"),
+            Fault::NoSession => write!(f, "no session"),
+            Fault::NothingToOpen => write!(f, "nothing to open"),
+            Fault::Refused(refusal) => write!(f, "{refusal}"),
+            Fault::Io(e) => write!(f, "{e}"),
+        }
+    }
 }
 
 // One From for all that convert to a refusal would conflict with that of AllocError, so each has its own.

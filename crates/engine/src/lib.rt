@@ -52,6 +52,7 @@ pub extern "C" fn mazgrut_pick(party: u8, tape: &[Entry], out: &mut [Entry]) -> 
 }
 
 // Accepts a sheet, opens a session over a flat bank of so many zeros, and plays calls on it. The tape is lent to each run.
+// Sheet, calls, tape and answers are parameters of their own, as C passes them.
 #[unsafe(no_mangle)]
 pub extern "C" fn mazgrut_play_flat(
     heap: Global,

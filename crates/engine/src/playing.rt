@@ -40,7 +40,7 @@ fn perform<B: Bank>(
     Ok(told(0, 0))
 }
 
-// Plays calls, one after the other.
+// Plays calls, one after the other. After a zip with `iter_mut` nothing is known of the answers, so each is set by its number.
 fn perform_all<B: Bank>(
     session: &mut Session<TwoParty, B>,
     calls: &[CallRow],

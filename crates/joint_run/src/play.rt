@@ -84,15 +84,6 @@ const THIRD: Recording = [
     },
 ];
 
-// One value that a party enters.
-#[derive(Clone, Copy)]
-struct Given {
-    party: u8,
-    variable: u8,
-    index: u32,
-    value: u32,
-}
-
 #[derive(Drop)]
 pub struct Told {
     pub bytes: usize,
@@ -106,10 +97,10 @@ pub struct Told {
 }
 
 // The maker's side.
-fn margins(heap: Global) -> anyhow::Result<Vec<Given>> {
+fn margins(heap: Global) -> anyhow::Result<Vec<Call>> {
     let mut all = Vec::new(heap);
     for (index, margin) in (0..).zip(&MARGIN_TABLE) {
-        all.push(Given {
+        all.push(Call::Enter {
             party: MAKER,
             variable: MARGINS,
             index,
@@ -120,11 +111,11 @@ fn margins(heap: Global) -> anyhow::Result<Vec<Given>> {
 }
 
 // The plant's side.
-fn frames(heap: Global, recording: &[Frame]) -> anyhow::Result<Vec<Given>> {
+fn frames(heap: Global, recording: &[Frame]) -> anyhow::Result<Vec<Call>> {
     let mut all = Vec::new(heap);
     for (index, frame) in (0..).zip(recording) {
         for (variable, value) in [(DRIVES, frame.drive), (SLACKS, frame.slack)] {
-            all.push(Given {
+            all.push(Call::Enter {
                 party: PLANT,
                 variable,
                 index,
@@ -135,15 +126,24 @@ fn frames(heap: Global, recording: &[Frame]) -> anyhow::Result<Vec<Given>> {
     Ok(all)
 }
 
+// Enters what these calls enter.
 fn enter_all(
     session: &mut Session<TwoParty, ShareBank>,
-    all: &[Given],
+    calls: &[Call],
     refused: &str,
 ) -> anyhow::Result<()> {
-    for given in all {
-        session
-            .enter(given.party, given.variable, given.index, given.value)
-            .map_err(|_| anyhow!("{refused}"))?;
+    for call in calls {
+        if let Call::Enter {
+            party,
+            variable,
+            index,
+            value,
+        } = *call
+        {
+            session
+                .enter(party, variable, index, value)
+                .map_err(|_| anyhow!("{refused}"))?;
+        }
     }
     Ok(())
 }
@@ -157,9 +157,7 @@ fn run_piece(
     let report = session
         .run(STEPS, &mut tape)
         .map_err(|_| anyhow!("a run was refused"))?;
-    for entry in tape.iter().take(report.entries) {
-        joined.push(*entry)?;
-    }
+    joined.extend(tape.iter().take(report.entries).copied())?;
     Ok(report)
 }
 
@@ -191,17 +189,8 @@ fn log_of(heap: Global, party: u8, joined: &[Entry]) -> anyhow::Result<Vec<Entry
 
 // The calls of a whole session with a recording.
 fn calls(heap: Global, recording: &[Frame]) -> anyhow::Result<Vec<Call>> {
-    let mut calls = Vec::new(heap);
-    let mut all = margins(heap)?;
-    all.extend_from_slice(&frames(heap, recording)?)?;
-    for given in &all {
-        calls.push(Call::Enter {
-            party: given.party,
-            variable: given.variable,
-            index: given.index,
-            value: given.value,
-        })?;
-    }
+    let mut calls = margins(heap)?;
+    calls.extend_from_slice(&frames(heap, recording)?)?;
     calls.push(Call::Start)?;
     calls.push(Call::Run {
         steps: 1000,
@@ -241,7 +230,7 @@ fn play_sheet(heap: Global, bytes: &[u8]) -> anyhow::Result<Told> {
     let plant = log_of(heap, PLANT, &joined)?;
     let other = compare_with(heap, &sheet, &OTHER)?;
     let third = compare_with(heap, &sheet, &THIRD)?;
-    let told = Told {
+    Ok(Told {
         bytes: bytes.len(),
         variables: sheet.variables(),
         records: sheet.records(),
@@ -250,8 +239,7 @@ fn play_sheet(heap: Global, bytes: &[u8]) -> anyhow::Result<Told> {
         plant,
         other,
         third,
-    };
-    Ok(told)
+    })
 }
 
 pub fn play(heap: Global) -> anyhow::Result<Told> {

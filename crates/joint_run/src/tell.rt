@@ -1,6 +1,7 @@
 // Printing what was done.
 use crate::play::Told;
 use crate::task::name;
+use compare::Logs;
 use std::fmt;
 use tape::{Entry, Kind};
 
@@ -58,24 +59,15 @@ fn first_difference(first: &[Entry], second: &[Entry]) -> Option<usize> {
 }
 
 // Where two logs of the maker part, if they do.
-fn print_comparison(
-    rt: &impl Print,
-    what: &str,
-    first: &[Entry],
-    second: &[Entry],
-) -> anyhow::Result<()> {
+fn print_comparison(rt: &impl Print, what: &str, logs: &Logs) -> anyhow::Result<()> {
+    let (first, second) = (logs.first.as_slice(), logs.second.as_slice());
     let Some(i) = first_difference(first, second) else {
         let (a, b) = (first.len(), second.len());
         println!(rt; "With {what} the logs of the maker, {a} and {b} entries, do not differ.")?;
         return Ok(());
     };
     println!(rt; "With {what} the logs of the maker first differ at entry {i}:")?;
-    for entry in first
-        .iter()
-        .skip(i)
-        .take(1)
-        .chain(second.iter().skip(i).take(1))
-    {
+    for entry in first.get(i).into_iter().chain(second.get(i)) {
         let line = Line(*entry);
         println!(rt; "  {line}")?;
     }
@@ -97,17 +89,7 @@ impl Told {
         println!(rt; "{steps} steps in all, over a share bank")?;
         print_log(rt, "maker", &self.maker)?;
         print_log(rt, "plant", &self.plant)?;
-        print_comparison(
-            rt,
-            "another recording",
-            &self.other.first,
-            &self.other.second,
-        )?;
-        print_comparison(
-            rt,
-            "a third recording",
-            &self.third.first,
-            &self.third.second,
-        )
+        print_comparison(rt, "another recording", &self.other)?;
+        print_comparison(rt, "a third recording", &self.third)
     }
 }

@@ -67,7 +67,7 @@ impl ShapeFault {
     }
 }
 
-// Written out for each layer: a trait of faults with one From would want as many lines of each.
+// Written out for each layer: one From over a trait of faults proves, but wants constants and ghost members of as many lines.
 impl From<ShapeFault> for Refusal {
     ghost from_gives = { λ f r. r ≡ shape_refusal_of f };
 

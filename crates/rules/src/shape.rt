@@ -1,4 +1,5 @@
 // What the shape of one record must keep: its label, its variables, its links.
+// A table and a variable, or a record and the count, are what one question asks; they are no thing of their own.
 ghost use Rattle.std.specs.Prelude.{◌≡◌, ℕ, ◌-◌, ◌<◌, Bool, ◌&&◌, length, nat_lt};
 ghost use Rattle.refusal.specs.Answers.{answer};
 ghost use Rattle.model.specs.Nesting.{branches, record_at};

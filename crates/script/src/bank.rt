@@ -13,14 +13,13 @@ const MOST_ZEROS: u64 = 1_000_000;
 fn zeros(heap: Global, rest: Option<&str>) -> Result<Option<Vec<u32>>, AllocError>
     ensures { IfOk result (λ v. option_map vec_items v ≡ zeros_of (fields rest.entry)) }
 {
-    let Some(read) = numbers(rest, [MOST_ZEROS]) else {
+    let Some([n]) = numbers(rest, [MOST_ZEROS]) else {
         return Ok(None);
     };
-    let [n] = read;
     Ok(Some(vec![in heap; 0u32; n as usize]?))
 }
 
-// The words one by one.
+// The words one by one. A `collect` into an Option would not say when it fails, so this is a loop.
 fn each(heap: Global, text: &str) -> Result<Option<Vec<u32>>, AllocError>
     ensures { IfOk result (λ v. option_map vec_items v ≡ each (words_of text.now)) }
 {

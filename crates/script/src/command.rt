@@ -1,4 +1,4 @@
-// Lines as commands: a name, and fields of its own behind it.
+// Lines as commands: a name, and fields of its own behind it. Each command has fields of its own, so each is read by itself.
 ghost use Rattle.std.specs.Prelude.{◌≡◌, [], ◌∷◌, codes};
 ghost use Rattle.std.specs.Option.{option_map};
 ghost use Rattle.script.specs.Commands.{asked, long, called, call_of, order_of, share_of, bank_of, sheet_of, asks, entry_limits, entry_of};

@@ -12,6 +12,7 @@ use labels::LabelOrder;
 pub(crate) struct Memory<O: LabelOrder, B> {
     program: Program<O>,
     bank: B,
+    // All places are in use from the start, so there is no length beside.
     numbers: [u32; 64],
     starts: [u32; 65],
     ghost laid: { starts ≡ first_cells (contents program).tables },

@@ -10,7 +10,8 @@ use crate::stack::Stack;
 use labels::LabelOrder;
 
 // The records on the stack are higher than the places where they lie, since links rise, and no zero is on top. The
-// program stays through each call, and each says so, since callers state what follows over it.
+// program stays through each call, and each says so: no type says that a value behind `&mut` keeps a part, and callers state
+// what follows over it.
 #[derive(Drop)]
 pub struct Session<O: LabelOrder, B> {
     memory: Memory<O, B>,

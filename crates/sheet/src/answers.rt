@@ -31,6 +31,7 @@ impl<'a> ReadSheet<'a> {
     }
 
     #[tactic(auto, unfolding(crate::specs::Valid::valid))]
+    // The law of `read` is proved over these equations, so they stand here too.
     fn take_over(&mut self, bytes: &'a [u8]) -> Result<(), SheetFault>
         ensures answers { result ≡ answer (sheet_refusal bytes.now) tt }
         ensures after { self.new.bytes.now ≡ read self.old.bytes.now bytes.now }

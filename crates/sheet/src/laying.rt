@@ -30,7 +30,7 @@ impl<'a> Tables<'a> {
         Ok(())
     }
 
-    // Writes the sheet to the beginning of `out`, and answers its length.
+    // Writes the sheet to the beginning of `out`, and answers its length. The law of `lay_out` is proved over these equations.
     #[tactic(auto, using(std::proofs::lemmas::Bool::Decides::nat_tests, crate::proofs::ReadsBack::sheet_long), unfolding(crate::specs::Layout::layout_refusal))]
     fn lay(&self, out: &mut [u8]) -> Result<usize, SheetFault>
         ensures answers { result ≡ answer (layout_refusal self.now.variables.now self.now.records.now (length out.old)) (length (sheet_bytes self.now.variables.now self.now.records.now)) }

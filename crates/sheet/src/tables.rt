@@ -82,7 +82,7 @@ impl Kind {
 }
 
 impl Form {
-    // The number of the form.
+    // The number of the form. Variants have fields, so their numbers are no discriminants.
     pub fn number(self) -> u8
         ensures { result ≡ form_code self }
     {
@@ -111,6 +111,7 @@ impl From<Op> for u8 {
     }
 }
 
+// The operator of a byte; each enum has numbers of its own, so each has its match.
 impl TryFrom<u8> for Op {
     type Error = UnknownOp;
 

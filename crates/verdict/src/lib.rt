@@ -25,9 +25,7 @@ impl fmt::Display for Sizes {
     ghost output = { λ s. Some (accepted_text s) };
 
     fn fmt<W: fmt::Write>(&self, f: &mut fmt::Formatter<W>) -> fmt::Result {
-        let variables = self.variables;
-        let records = self.records;
-        write!(f, "accepted {variables} {records}")
+        write!(f, "accepted {} {}", self.variables, self.records)
     }
 }
 

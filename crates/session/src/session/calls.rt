@@ -81,7 +81,8 @@ impl<O: LabelOrder, B: Bank> Session<O, B> {
         Ok(())
     }
 
-    // Sets a variable, before the start, for a party to which its label is open.
+    // Sets a variable, before the start, for a party to which its label is open. Party, variable and index are what a host
+    // passes, each refused by a number of its own.
     pub fn enter(
         &mut self,
         party: u8,

@@ -1,4 +1,5 @@
 // The forms: what each does to the memory, and what it writes on the tape.
+// Each form is a function of its own, also where two look alike, since they write different entries.
 ghost use Rattle.std.specs.Prelude.{◌++◌};
 ghost use Rattle.model.specs.Machine.{act, entries, end_if};
 ghost use Rattle.session.specs.Memories.{tables_of, order_of, memory_of};
