@@ -282,12 +282,7 @@ impl<W: Write> Desk<W> {
         let order = self.order()?;
         let buffer = waiting.buffer;
         widen(&mut self.room, buffer)?;
-        let count = pick(
-            &order,
-            waiting.party,
-            &self.given,
-            &mut self.room[..buffer],
-        )?;
+        let count = pick(&order, waiting.party, &self.given, &mut self.room[..buffer])?;
         writeln!(self.out, "picked {count}")?;
         tell(&mut self.out, front(&self.room, count))?;
         Ok(())

@@ -3,8 +3,7 @@ use labels::OrderFault;
 use model::SessionFault;
 use refusal::Refusal;
 use std::alloc::{AllocError, AllocFailed};
-use std::fmt;
-use std::io;
+use std::{fmt, io};
 use tape::LogFault;
 
 #[derive(Drop)]

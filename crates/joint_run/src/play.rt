@@ -181,8 +181,9 @@ fn run_all(
 // A party's log of the joined tape.
 fn log_of(heap: Global, party: u8, joined: &[Entry]) -> anyhow::Result<Vec<Entry>> {
     let mut log = vec![in heap; BLANK; joined.len()]?;
-    let entries = pick(&TwoParty, party, joined, &mut log)
-        .map_err(|_| anyhow!("the log was refused"))?;
+    let entries = pick(&TwoParty, party, joined, &mut log).map_err(|_| anyhow!(
+        "the log was refused"
+    ))?;
     log.truncate(entries);
     Ok(log)
 }
@@ -205,8 +206,9 @@ fn compare_with(heap: Global, sheet: &ReadSheet, recording: &[Frame]) -> anyhow:
     let cells = FlatBank::new(vec![in heap; 7u32; CELLS]?);
     let ours = calls(heap, &FIRST)?;
     let theirs = calls(heap, recording)?;
-    compare(sheet, &TwoParty, MAKER, shares, &ours, cells, &theirs, heap)
-        .map_err(|_| anyhow!("the comparison was refused"))
+    compare(sheet, &TwoParty, MAKER, shares, &ours, cells, &theirs, heap).map_err(|_| anyhow!(
+        "the comparison was refused"
+    ))
 }
 
 // The session with the first recording, from the accepted sheet to both logs; then the comparisons.
@@ -244,8 +246,9 @@ fn play_sheet(heap: Global, bytes: &[u8]) -> anyhow::Result<Told> {
 
 pub fn play(heap: Global) -> anyhow::Result<Told> {
     let mut buffer = [0; 512];
-    let length = lay_out(&VARIABLES, &RECORDS, &mut buffer)
-        .map_err(|_| anyhow!("the tables have no sheet"))?;
+    let length = lay_out(&VARIABLES, &RECORDS, &mut buffer).map_err(|_| anyhow!(
+        "the tables have no sheet"
+    ))?;
     if length > 512 {
         return Err(anyhow!("the sheet is too long"));
     }

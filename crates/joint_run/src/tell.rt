@@ -52,10 +52,7 @@ fn print_log(rt: &impl Print, who: &str, log: &[Entry]) -> anyhow::Result<()> {
 
 // The first place where two entries are not the same.
 fn first_difference(first: &[Entry], second: &[Entry]) -> Option<usize> {
-    first
-        .iter()
-        .zip(second.iter())
-        .position(|(a, b)| *a != *b)
+    first.iter().zip(second.iter()).position(|(a, b)| *a != *b)
 }
 
 // Where two logs of the maker part, if they do.
