@@ -1,8 +1,9 @@
 -- The computed checks agree with the shape and the rules. Assumes nothing.
-use Rattle.std.proofs.Common.{◌≡◌, ℕ, zero, suc, ◌+◌, ◌-◌, ◌≤◌, true, eqb, ltb, leb, length, Some, None, Option, sym, refl, ap, ◌∙◌, subst, arith}
+use Rattle.std.proofs.Common.{◌≡◌, ℕ, zero, suc, ◌+◌, ◌-◌, ◌≤◌, true, eqb, ltb, leb, length, Some, None, Option, Decides, sym, refl, ap, ◌∙◌, subst, arith}
 use Rattle.std.specs.Option.{option_or}
 use Rattle.std.specs.List.{AllByRecursion}
 use Rattle.std.proofs.lemmas.Bool.{eqb-true, eq-eqb, leb-true, le-leb, and_parts, and_from}
+use Rattle.std.proofs.lemmas.Bool.Decides.{Decides-and, Decides-eqb, Decides-ltb}
 use Rattle.sheet.specs.declared.tables.Form.{Form}
 use Rattle.sheet.specs.declared.tables.Form.TheVariants.{Skip, Copy, Constant, Binary, Fetch, Mux, Store, If, While, Declass, Oram}
 use Rattle.sheet.specs.declared.tables.Record.{Record}
@@ -20,24 +21,24 @@ use Rattle.checker.specs.Checks.{variables_refusal, records_refusal, once_refusa
 use Rattle.rules.specs.Breaches.{breaks, first_broken, rules}
 use Rattle.checker.specs.Breaches.{labelled_at, fault_at, rules_refusal}
 use Rattle.rules.proofs.Records.{Passed, all_passed, by_none}
-use Rattle.checker.proofs.Decided.{Agrees, a_always, a_and, a_all, a_lt, a_eq, a_number, a_array, a_rises}
+use Rattle.checker.proofs.Decided.{a_always, a_all, a_number, a_array, a_rises}
 use Rattle.checker.proofs.Deciding.{decided, none_broken, some_broken}
 
 both : {X : Type 0} (o q : Option X) → o ≡ None → q ≡ None → option_or o q ≡ None
 both o q a b = ap (λ x. option_or x q) a ∙ b
 
 module _ (p : Program) where
-  a_present : (f : Form) → Agrees (present p.variables f) (Present p f)
+  a_present : (f : Form) → Decides (present p.variables f) (Present p f)
   a_present f =
-      a_and _ _ (a_all (λ v. ltb v (length p.variables)) (IsVariable p) (λ v. a_lt v (length p.variables)) (numbers f))
-      (a_all (λ v. ltb v (length p.variables)) (IsVariable p) (λ v. a_lt v (length p.variables)) (arrays f))
+      Decides-and _ _ (a_all (λ v. ltb v (length p.variables)) (IsVariable p) (λ v. Decides-ltb v (length p.variables)) (numbers f))
+      (a_all (λ v. ltb v (length p.variables)) (IsVariable p) (λ v. Decides-ltb v (length p.variables)) (arrays f))
 
-  a_kinds : (f : Form) → Agrees (right_kinds p.variables f) (RightKinds p f)
+  a_kinds : (f : Form) → Decides (right_kinds p.variables f) (RightKinds p f)
   a_kinds f =
-      a_and _ _ (a_all (λ v. is_number (kind_of p.variables v)) (IsNumber p) (λ v. a_number (kind_of p.variables v)) (numbers f))
+      Decides-and _ _ (a_all (λ v. is_number (kind_of p.variables v)) (IsNumber p) (λ v. a_number (kind_of p.variables v)) (numbers f))
       (a_all (λ v. is_array (kind_of p.variables v)) (IsArray p) (λ v. a_array (kind_of p.variables v)) (arrays f))
 
-  a_lengths : (f : Form) → Agrees (same_length p.variables f) (SameLength p f)
+  a_lengths : (f : Form) → Decides (same_length p.variables f) (SameLength p f)
   a_lengths Skip = a_always
   a_lengths (Copy x a) = a_always
   a_lengths (Constant x k) = a_always
@@ -48,9 +49,9 @@ module _ (p : Program) where
   a_lengths (If a first second) = a_always
   a_lengths (While a body) = a_always
   a_lengths (Declass x a) = a_always
-  a_lengths (Oram x a) = a_eq (length_of p.variables x) (length_of p.variables a)
+  a_lengths (Oram x a) = Decides-eqb (length_of p.variables x) (length_of p.variables a)
 
-a_links : (n k : ℕ) (r : Record) → Agrees (links_fit n k r) (AllByRecursion (Rises n k) (links r))
+a_links : (n k : ℕ) (r : Record) → Decides (links_fit n k r) (AllByRecursion (Rises n k) (links r))
 a_links n k r = (to, from)
   where
     to : links_fit n k r ≡ true → AllByRecursion (Rises n k) (links r)
