@@ -16,6 +16,7 @@ fn count_link(counts: &mut [u16], link: u16)
     ensures { (k : ℕ) → k < length counts.old → slice_index counts.new k ≡ (if nat_eq link k then 1 else 0) + slice_index counts.old k }
 {
     let at = link as usize;
+    // By index: with `get_mut` the proof does not close.
     if at < counts.len() {
         counts[at] += 1;
     }
