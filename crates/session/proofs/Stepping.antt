@@ -1,5 +1,7 @@
 -- What a step leaves, from what its act leaves and from how the stack is moved. Assumes nothing.
-use Rattle.std.proofs.Common.{◌≡◌, ℕ, List, ◌∷◌, ◌++◌, sym, ap, ◌∙◌}
+use Rattle.std.proofs.Common.{◌≡◌, ℕ, suc, ◌+◌, List, [], ◌∷◌, ◌++◌, length, set, sym, ap, ◌∙◌, arith}
+use Rattle.tape.specs.declared.entry.Entry.{Entry}
+use Rattle.session.specs.Acting.{write_at}
 use Rattle.sheet.specs.declared.tables.Record.{Record}
 use Rattle.labels.specs.Labels.{Labels}
 use Rattle.model.specs.Nesting.{record_at}
@@ -7,6 +9,12 @@ use Rattle.model.specs.Program.{Program}
 use Rattle.model.specs.Machine.{Memory, Config, act, onward, stripped, entries, end_if, is_empty, step, step_at, written, written_at}
 use Rattle.session.specs.Piles.{moved}
 use Rattle.session.proofs.Moving.{onward_moved}
+
+pub write_at_append : (t : List Entry) (at : ℕ) (es fs : List Entry) → write_at (write_at t at es) (at + length es) fs ≡ write_at t at (es ++ fs)
+write_at_append t at [] fs = let e : at + 0 ≡ at = omega arith in ap (λ k. write_at t k fs) e
+write_at_append t at (e ∷ es) fs =
+    let f : at + suc (length es) ≡ at + 1 + length es = omega arith in
+    ap (λ k. write_at (write_at (set t at e) (at + 1) es) k fs) f ∙ write_at_append (set t at e) (at + 1) es fs
 
 module _ (L : Labels) (p : Program) (m : Memory) (st : List ℕ) (n : ℕ) (rest : List ℕ) (r : Record) (on : st ≡ n ∷ rest) (is : r ≡ record_at p.records n)
     (after : List ℕ) (go : after ≡ stripped ((moved p n r.next r.form m).1 ∷ ((moved p n r.next r.form m).0 ∷ rest))) where

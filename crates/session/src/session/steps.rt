@@ -51,8 +51,6 @@ impl<O: LabelOrder, B: Bank> Session<O, B> {
         let n = self.stack.top();
         let taken = self.memory.program().record(n);
         let (place, above) = self.moved(n, taken.next, taken.form);
-        self.stack.advance(place, above);
-        let last = self.stack.is_empty();
         let mut turn = Turn {
             number: n,
             label: taken.label,
@@ -60,7 +58,9 @@ impl<O: LabelOrder, B: Bank> Session<O, B> {
             tape,
             at,
         };
-        turn.take(taken.form, last);
+        turn.act(taken.form);
+        self.stack.advance(place, above);
+        turn.finish(self.stack.is_empty());
         turn.at
     }
 }

@@ -1,9 +1,8 @@
 // The forms: what each does to the memory, and what it writes on the tape.
 // Each form is a function of its own, also where two look alike, since they write different entries.
-ghost use Rattle.std.specs.Prelude.{◌++◌};
-ghost use Rattle.model.specs.Machine.{act, entries, end_if};
-ghost use Rattle.session.specs.Memories.{tables_of, order_of, memory_of};
-ghost use Rattle.session.specs.Acting.{MayAct, Acts, Leaves};
+ghost use Rattle.model.specs.Machine.{end_if};
+ghost use Rattle.session.specs.Memories.{order_of, memory_of};
+ghost use Rattle.session.specs.Acting.{HasRoom, MayAct, Acts, Leaves};
 
 use crate::turn::Turn;
 use crate::values::{apply, mux};
@@ -128,12 +127,11 @@ impl<'a, O: LabelOrder, B: Bank> Turn<'a, O, B> {
         }
     }
 
-    // Takes the record, and tells of the end where no record is left.
-    pub(crate) fn take(&mut self, form: Form, last: bool)
-        requires { MayAct form self.old }
-        ensures { Leaves B.cells (entries (O.meaning (order_of self.old.memory.now)) (tables_of self.old.memory.now) self.old.number self.old.label form (memory_of B.cells self.old.memory.now) ++ end_if (O.meaning (order_of self.old.memory.now)) last) (act (tables_of self.old.memory.now) form (memory_of B.cells self.old.memory.now)) self.old self.new }
+    // Tells of the end where no record is left.
+    pub(crate) fn finish(&mut self, last: bool)
+        requires { HasRoom 1 self.old }
+        ensures { Leaves B.cells (end_if (O.meaning (order_of self.old.memory.now)) last) (memory_of B.cells self.old.memory.now) self.old self.new }
     {
-        self.act(form);
         if last {
             self.end();
         }
