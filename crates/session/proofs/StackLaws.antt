@@ -1,19 +1,11 @@
 -- Laws of the stack as a list.
-use Rattle.std.proofs.Common.{◌≡◌, ℕ, zero, suc, ◌-◌, ◌<◌, ◌≤◌, Bool, true, false, eqb, List, [], ◌∷◌, ◌++◌, length, get_or, take, drop, set, length-set, sym, refl, ap, ◌∙◌, arith}
-use Rattle.std.proofs.lemmas.Bool.{ne_eqb}
+use Rattle.std.proofs.Common.{◌≡◌, ℕ, zero, suc, ◌-◌, ◌<◌, ◌≤◌, Bool, true, false, List, [], ◌∷◌, ◌++◌, length, get_or, take, drop, set, length-set, sym, refl, ap, ◌∙◌, arith}
 use Rattle.std.proofs.lemmas.List.{length-reverse, reverse-append, take_all, take_at}
 use Rattle.std.proofs.Math.Seq.{take-suc, take-suc-set}
 use Rattle.std.specs.List.{refill}
 use mathlib.Core.List.{reverse}
 use Rattle.session.specs.Stacks.{below_top}
 use Rattle.model.specs.Machine.{is_empty, stripped}
-
-empty_is : (st : List ℕ) → eqb (length st) 0 ≡ is_empty st
-empty_is [] = refl
-empty_is (x ∷ st) = ne_eqb (suc (length st)) 0 (λ e. omega (arith, e))
-
-pub pile_empty : (xs : List ℕ) → eqb (length xs) 0 ≡ is_empty (reverse xs)
-pile_empty xs = ap (λ (n : ℕ). eqb n 0) (sym (length-reverse xs)) ∙ empty_is (reverse xs)
 
 pile_push : (xs : List ℕ) (x : ℕ) → reverse (xs ++ x ∷ []) ≡ x ∷ reverse xs
 pile_push xs x = reverse-append xs (x ∷ [])
