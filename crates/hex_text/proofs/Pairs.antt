@@ -1,11 +1,21 @@
 -- Digits two at a time. Assumes nothing.
-use Rattle.std.proofs.Common.{◌≡◌, ℕ, List, [], ◌∷◌, ◌++◌, length, get_or, Some, None, Option, sym, refl, ap, ◌∙◌, append_assoc, arith}
+use Rattle.std.proofs.Common.{◌≡◌, ℕ, ◌%◌, List, [], ◌∷◌, ◌++◌, length, get_or, Some, None, Option, sym, refl, ap, ◌∙◌, append_assoc, arith}
 use Rattle.hex_text.specs.Digits.{digit, byte_of, before, bytes_of}
 
 -- bytes in front of others, where those are there
 abbrev pub front : List ℕ → Option (List ℕ) → Option (List ℕ)
 front bs None = None
 front bs (Some more) = Some (bs ++ more)
+
+before_none : (o : Option ℕ) → before o None ≡ None
+before_none None = refl
+before_none (Some b) = refl
+
+-- an odd number of digits spells nothing
+pub odd : (text : List ℕ) → (length text % 2 ≡ 0 → ⊥) → bytes_of text ≡ None
+odd [] h = absurd (h refl)
+odd (a ∷ []) h = refl
+odd (a ∷ (b ∷ text)) h = ap (before (byte_of (digit a) (digit b))) (odd text (λ e. h (omega arith))) ∙ before_none _
 
 pub front_more : (bs : List ℕ) (b : ℕ) (o : Option (List ℕ)) → front bs (before (Some b) o) ≡ front (bs ++ (b ∷ [])) o
 front_more bs b None = refl

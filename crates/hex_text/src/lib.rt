@@ -29,15 +29,11 @@ fn pair(a: u8, b: u8) -> Option<u8>
     Some(16 * high + low)
 }
 
-// The bytes that a text of digits spells; none where a character is no digit or one is left over. A `collect` into an Option
-// would not say when it fails, so this is a loop.
+// The bytes of pairs of digits. A `collect` into an Option would not say when it fails, so this is a loop.
 #[tactic(auto, using(crate::proofs::Pairs::pair_more))]
-pub fn decode(heap: Global, text: &[u8]) -> Result<Option<Vec<u8>>, AllocError>
+fn bytes_of(heap: Global, text: &[u8]) -> Result<Option<Vec<u8>>, AllocError>
     ensures { IfOk result (λ bytes. option_map vec_items bytes ≡ bytes_of text.now) }
 {
-    if text.len() % 2 != 0 {
-        return Ok(None);
-    }
     let mut bytes = Vec::new(heap);
     for digits in text.chunks(2) {
         let [high, low] = digits else {
@@ -49,4 +45,15 @@ pub fn decode(heap: Global, text: &[u8]) -> Result<Option<Vec<u8>>, AllocError>
         }
     }
     Ok(Some(bytes))
+}
+
+// The bytes that a text of digits spells; none where a character is no digit or one is left over.
+#[tactic(auto, using(crate::proofs::Pairs::odd))]
+pub fn decode(heap: Global, text: &[u8]) -> Result<Option<Vec<u8>>, AllocError>
+    ensures { IfOk result (λ bytes. option_map vec_items bytes ≡ bytes_of text.now) }
+{
+    if text.len() % 2 != 0 {
+        return Ok(None);
+    }
+    bytes_of(heap, text)
 }

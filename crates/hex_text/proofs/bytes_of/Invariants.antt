@@ -2,7 +2,7 @@ use Rattle.std.proofs.Common.{◌≡◌, vec_items}
 use Rattle.std.specs.Slice.Iter.{chunks_rest, chunks_size}
 use Rattle.hex_text.specs.Digits.{bytes_of}
 use Rattle.hex_text.proofs.Pairs.{front}
-use Rattle.hex_text.proofs.decode.Given as goal
+use Rattle.hex_text.proofs.bytes_of.Given as goal
 
 abbrev pub invariant-loop-digits : goal.invariant-loop-digits
 invariant-loop-digits l =
