@@ -9,13 +9,14 @@ use std::alloc::{AllocError, Global};
 
 const MOST_ZEROS: u64 = 1_000_000;
 
-// So many zeros, if the number can be read.
+// So many zeros, if the number can be read. A pattern `Some([n])` gets no proof yet, so the array is taken apart by itself.
 fn zeros(heap: Global, rest: Option<&str>) -> Result<Option<Vec<u32>>, AllocError>
     ensures { IfOk result (λ v. option_map vec_items v ≡ zeros_of (fields rest.entry)) }
 {
-    let Some([n]) = numbers(rest, [MOST_ZEROS]) else {
+    let Some(read) = numbers(rest, [MOST_ZEROS]) else {
         return Ok(None);
     };
+    let [n] = read;
     Ok(Some(vec![in heap; 0u32; n as usize]?))
 }
 
