@@ -152,6 +152,11 @@ fn tables_without_a_sheet(rt: HostRuntime) {
             Some(SheetFault::RecordCount(2))
         )
     );
+}
+
+#[test]
+fn arrays_without_a_sheet(rt: HostRuntime) {
+    let mut out = [0; 64];
     assert!(rt;
         matches!(
             fault(&[NUMBER, array(0)], &[SUM], &mut out),
