@@ -136,34 +136,28 @@ closed_picked L q e h =
       ]
     ]
 
-closed_none : (L : Labels) (q : ℕ) → closed (pick L q []) ≡ false
-unfolding closed pick
-closed_none L q = refl
-
-closed_one : (L : Labels) (q : ℕ) (e : Entry) (es : List Entry) → eqb e.kind 8 ≡ false → closed (pick L q es) ≡ false → closed (pick L q (e ∷ es)) ≡ false
-unfolding pick picked
-closed_one L q e es h k = closed_append (picked L q e) (pick L q es) (closed_picked L q e h) ∙ k
+closed_picks : (L : Labels) (q : ℕ) (es : List Entry) → closed es ≡ false → closed (pick L q es) ≡ false
+unfolding closed pick picked
+closed_picks L q [] h = refl
+closed_picks L q (e ∷ es) h =
+    elim (cases_Bool (eqb e.kind 8)) [
+      | inl k ↦ absurd (both_ways true (sym (rw k refl) ∙ h) refl)
+      | inr k ↦ closed_append (picked L q e) (pick L q es) (closed_picked L q e k) ∙ closed_picks L q es (rw k at h)
+    ]
 
 -- no form writes end itself
-closed_entries : (L : Labels) (p : Program) (q r l : ℕ) (f : Form) (m : Memory) → closed (pick L q (entries L p r l f m)) ≡ false
-closed_entries L p q r l Skip m = closed_none L q
-closed_entries L p q r l (Copy x a) m = closed_one L q _ _ refl (closed_one L q _ _ refl (closed_one L q _ _ refl (closed_none L q)))
-closed_entries L p q r l (Constant x k) m = closed_one L q _ _ refl (closed_one L q _ _ refl (closed_none L q))
-closed_entries L p q r l (Binary x a b op) m = closed_one L q _ _ refl (closed_one L q _ _ refl (closed_one L q _ _ refl (closed_one L q _ _ refl (closed_none L q))))
-closed_entries L p q r l (Fetch x a b) m = closed_one L q _ _ refl (closed_one L q _ _ refl (closed_one L q _ _ refl (closed_one L q _ _ refl (closed_none L q))))
-closed_entries L p q r l (Mux x a b c) m = closed_one L q _ _ refl (closed_one L q _ _ refl (closed_one L q _ _ refl (closed_one L q _ _ refl (closed_one L q _ _ refl (closed_none L q)))))
-closed_entries L p q r l (Store x a b) m = closed_one L q _ _ refl (closed_one L q _ _ refl (closed_one L q _ _ refl (closed_one L q _ _ refl (closed_none L q))))
-closed_entries L p q r l (If a first second) m = closed_one L q _ _ refl (closed_one L q _ _ refl (closed_none L q))
-closed_entries L p q r l (While a b) m = closed_one L q _ _ refl (closed_one L q _ _ refl (closed_none L q))
-closed_entries L p q r l (Declass x a) m = closed_one L q _ _ refl (closed_one L q _ _ refl (closed_one L q _ _ refl (closed_none L q)))
-closed_entries L p q r l (Oram x a) m = closed_one L q _ _ refl (closed_one L q _ _ refl (closed_one L q _ _ refl (closed_none L q)))
+no_end : (L : Labels) (p : Program) (r l : ℕ) (f : Form) (m : Memory) → closed (entries L p r l f m) ≡ false
+unfolding closed
+no_end L p r l Skip m = refl
+no_end L p r l f m = refl
 
 pub closed_body : (L : Labels) (p : Program) (q k : ℕ) (m : Memory) (st : List ℕ) → closed (body L p q k (at m st)) ≡ false
 unfolding body step closed
 closed_body L p q zero m st = refl
-closed_body L p q (suc k) m [] = closed_append (pick L q []) (body L p q k (at m [])) (closed_none L q) ∙ closed_body L p q k m []
+closed_body L p q (suc k) m [] = closed_append (pick L q []) (body L p q k (at m [])) (closed_picks L q [] refl) ∙ closed_body L p q k m []
 closed_body L p q (suc k) m (r ∷ rest) =
-    closed_append (pick L q (entries L p r (record_at p.records r).label (record_at p.records r).form m)) _ (closed_entries L p q r (record_at p.records r).label (record_at p.records r).form m)
+    let es = entries L p r (record_at p.records r).label (record_at p.records r).form m in
+    closed_append (pick L q es) _ (closed_picks L q es (no_end L p r (record_at p.records r).label (record_at p.records r).form m))
     ∙ closed_body L p q k _ _
 
 pub closed_end : (L : Labels) (b : Bool) → closed (end_if L b) ≡ b

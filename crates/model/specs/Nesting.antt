@@ -9,17 +9,9 @@ use Rattle.model.specs.declared.place.Place.{Place}
 
 -- the branches of an if, the body of a while; zero for none
 abbrev pub branches : Form → ℕ × ℕ
-branches Skip = (0, 0)
-branches (Copy x a) = (0, 0)
-branches (Constant x value) = (0, 0)
-branches (Binary x a b op) = (0, 0)
-branches (Fetch x a b) = (0, 0)
-branches (Mux x a b c) = (0, 0)
-branches (Store x a b) = (0, 0)
 branches (If a then other) = (then, other)
 branches (While a body) = (body, 0)
-branches (Declass x a) = (0, 0)
-branches (Oram x a) = (0, 0)
+branches f = (0, 0)
 
 abbrev pub links : Record → List ℕ
 links r = r.next ∷ (branches r.form).0 ∷ (branches r.form).1 ∷ []
