@@ -15,15 +15,15 @@ use Rattle.model.proofs.Memory.{Sized}
 use Rattle.model.proofs.Compare.{advance}
 use Rattle.model.proofs.Tape.{trail, trail_add, advance_add, steps_are}
 
-is_refusal : (o : Option SessionFault) → (o ≡ None) ⊎ ((e : SessionFault) × (o ≡ Some e))
+pub is_refusal : (o : Option SessionFault) → (o ≡ None) ⊎ ((e : SessionFault) × (o ≡ Some e))
 is_refusal (Some e) = inr (e, refl)
 is_refusal None = inl refl
 
-perform_refused : (L : Labels) (p : Program) (c : Call) (s : State) (e : SessionFault) → fault L p c s ≡ Some e → perform L p c s ≡ record { state = s; tape = [] }
+pub perform_refused : (L : Labels) (p : Program) (c : Call) (s : State) (e : SessionFault) → fault L p c s ≡ Some e → perform L p c s ≡ record { state = s; tape = [] }
 unfolding perform
 perform_refused L p c s e h = rw h
 
-perform_granted : (L : Labels) (p : Program) (c : Call) (s : State) → fault L p c s ≡ None → perform L p c s ≡ granted L p c s
+pub perform_granted : (L : Labels) (p : Program) (c : Call) (s : State) → fault L p c s ≡ None → perform L p c s ≡ granted L p c s
 unfolding perform
 perform_granted L p c s h = rw h
 

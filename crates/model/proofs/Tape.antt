@@ -3,7 +3,7 @@ use Rattle.std.proofs.Common.{◌≡◌, ℕ, zero, suc, ◌+◌, ◌-◌, ◌<�
 use mathlib.Core.List.{tail-eq_of_cons-eq}
 use Rattle.std.proofs.lemmas.Bool.{both_ways, cases_Bool}
 use Rattle.sheet.specs.declared.tables.Form.{Form}
-use Rattle.sheet.specs.declared.tables.Form.TheVariants.{Skip, Copy, Constant, Binary, Fetch, Mux, Store, If, While, Declass, Oram}
+use Rattle.sheet.specs.declared.tables.Form.TheVariants.{Skip, Fetch, Store}
 use Rattle.tape.specs.declared.entry.Entry.{Entry}
 use Rattle.labels.specs.Labels.{Labels, Lawful}
 use Rattle.model.specs.Nesting.{record_at}

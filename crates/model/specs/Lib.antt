@@ -6,5 +6,6 @@ pub mod Log
 pub mod Stops
 pub mod Session
 pub mod Secrecy
+pub mod Heights
 pub mod Cases
 pub mod Faults

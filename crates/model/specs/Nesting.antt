@@ -2,7 +2,7 @@
 use Rattle.std.specs.Prelude.{◌≡◌, ℕ, zero, suc, ◌+◌, ◌-◌, ◌<◌, ◌≤◌, cond, ◌||◌, ◌⊎◌, List, [], ◌∷◌, length, Some, None, Option, ◌==◌, slice_index_or}
 use Rattle.std.specs.List.{flat_map, AllByRecursion}
 use Rattle.sheet.specs.declared.tables.Form.{Form}
-use Rattle.sheet.specs.declared.tables.Form.TheVariants.{Skip, Copy, Constant, Binary, Fetch, Mux, Store, If, While, Declass, Oram}
+use Rattle.sheet.specs.declared.tables.Form.TheVariants.{Skip, If, While}
 use Rattle.sheet.specs.declared.tables.Record.{Record}
 use Rattle.refusal.specs.Answers.{first_below}
 use Rattle.model.specs.declared.place.Place.{Place}
