@@ -1,5 +1,5 @@
 -- A session's calls: before the accepted start nothing is written, after it the runs are pieces of one run.
-use Rattle.std.proofs.Common.{◌≡◌, ℕ, ◌+◌, ◌<◌, true, false, ◌⊎◌, List, [], ◌∷◌, ◌++◌, length, set, Some, None, Ok, Option, sym, refl, ap, ◌∙◌, ap₂, inl, inr, length-set}
+use Rattle.std.proofs.Common.{◌≡◌, ℕ, ◌+◌, ◌<◌, true, false, ◌⊎◌, List, [], ◌∷◌, ◌++◌, length, Some, None, Ok, Option, sym, refl, ap, ◌∙◌, ap₂, inl, inr, length-set}
 use lib.ListN.{length-replicate}
 use Rattle.std.proofs.lemmas.Bool.{cases_Bool, ltb-false, lt-ltb, le-ltb}
 use Rattle.sheet.specs.declared.tables.Kind.{Kind}
@@ -9,9 +9,9 @@ use Rattle.model.specs.declared.fault.SessionFault.{SessionFault}
 use Rattle.model.specs.declared.fault.SessionFault.TheVariants.{BankTooSmall, Started, NotStarted}
 use Rattle.labels.specs.Labels.{Labels, Open}
 use Rattle.model.specs.Program.{Program, IsVariable, kind_of, label_of, base, cells_needed}
-use Rattle.model.specs.Machine.{Memory, Config, by_kind, inside, held, put}
+use Rattle.model.specs.Machine.{Memory, Config, inside, held, put}
 use Rattle.model.specs.Session.{State, Call, enter, start, run, look, Done, granted, opened, too_small, has_place, fault, perform, after, looked, at_start, steps}
-use Rattle.model.proofs.Memory.{Sized}
+use Rattle.model.proofs.Memory.{Sized, put_as}
 use Rattle.model.proofs.Compare.{advance}
 use Rattle.model.proofs.Tape.{trail, trail_add, advance_add, steps_are}
 
@@ -100,7 +100,7 @@ put_numbers : (p : Program) (m : Memory) (v i k : ℕ) → length (put p m v i k
 unfolding put
 put_numbers p m v i k = go (kind_of p.variables v)
   where
-    go : (t : Kind) → length (by_kind {A = Memory} t (record { numbers = set m.numbers v k; cells = m.cells }) (record { numbers = m.numbers; cells = set m.cells (base p v + i) k })).numbers ≡ length m.numbers
+    go : (t : Kind) → length (put_as t m v (base p v + i) k).numbers ≡ length m.numbers
     go Number = length-set m.numbers v k
     go (Array c) = refl
 
