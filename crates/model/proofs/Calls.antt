@@ -12,8 +12,9 @@ use Rattle.model.specs.Program.{Program, IsVariable, kind_of, label_of, base, ce
 use Rattle.model.specs.Machine.{Memory, Config, inside, held, put}
 use Rattle.model.specs.Session.{State, Call, enter, start, run, look, Done, granted, opened, too_small, has_place, fault, perform, after, looked, at_start, steps}
 use Rattle.model.proofs.Memory.{Sized, put_as}
-use Rattle.model.proofs.Compare.{advance}
-use Rattle.model.proofs.Tape.{trail, trail_add, advance_add, steps_are}
+use Rattle.model.specs.Runs.{advance, trail}
+use Rattle.model.proofs.Tape.{trail_add, advance_add}
+use Rattle.model.proofs.Running.{is_run}
 
 pub is_refusal : (o : Option SessionFault) → (o ≡ None) ⊎ ((e : SessionFault) × (o ≡ Some e))
 is_refusal (Some e) = inr (e, refl)
@@ -67,8 +68,8 @@ perform_started L p start s h =
 perform_started L p (run n room) s h =
     elim (is_refusal (fault L p (run n room) s)) [
       | inl e ↦
-          let k = steps_are L p n room s.config in
-          rw (perform_granted L p (run n room) s e) (record { count = (steps L p n room s.config).count; tape = k.1; config = k.0; started = h })
+          let k = is_run L p n room s.config in
+          rw (perform_granted L p (run n room) s e) (record { count = (steps L p n room s.config).count; tape = k.tape; config = k.config; started = h })
       | inr e ↦ rw (perform_refused L p (run n room) s e.0 e.1) (went_nowhere L p s h)
     ]
 perform_started L p (look q v i) s h = rw (look_same L p q v i s) (went_nowhere L p s h)

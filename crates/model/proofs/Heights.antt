@@ -11,8 +11,9 @@ use Rattle.model.specs.Machine.{Memory, holds, held, onward, stripped, step}
 use Rattle.model.specs.Session.{State, Call, run, opened, granted, perform, after}
 use Rattle.model.specs.Heights.{LowStack}
 use Rattle.model.proofs.Places.{Branch, next_up, branch_up, next_place, branch_place, main_place}
-use Rattle.model.proofs.Compare.{at, advance}
-use Rattle.model.proofs.Tape.{steps_are}
+use Rattle.model.specs.Runs.{advance}
+use Rattle.model.proofs.Compare.{at}
+use Rattle.model.proofs.Running.{is_run}
 use Rattle.model.proofs.Calls.{is_refusal, perform_refused, perform_granted}
 
 -- each record on the stack stands as deep as it is nested
@@ -97,7 +98,7 @@ low_call L p S c s h =
     ]
   where
     granted_low : (c : Call) → Low p (granted L p c s).state.config.stack
-    granted_low (run n room) = rw (steps_are L p n room s.config).0 (low_advance p S _ s.config.memory s.config.stack h)
+    granted_low (run n room) = rw (is_run L p n room s.config).config (low_advance p S _ s.config.memory s.config.stack h)
     granted_low c = h
 
 low_after : (L : Labels) (p : Program) → Sound p → (cs : List Call) (s : State) → Low p s.config.stack → Low p (after L p cs s).state.config.stack

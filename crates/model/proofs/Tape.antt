@@ -1,5 +1,5 @@
 -- The tape of a number of steps, and what pick makes of it.
-use Rattle.std.proofs.Common.{◌≡◌, ℕ, zero, suc, ◌+◌, ◌-◌, ◌<◌, Bool, true, false, eqb, ltb, ◌≢◌, List, [], ◌∷◌, ◌++◌, length, Some, None, Option, sym, refl, ap, ◌∙◌, inl, inr, append_assoc, append-nil, suc-add, zero-add}
+use Rattle.std.proofs.Common.{◌≡◌, ℕ, zero, suc, ◌+◌, ◌<◌, Bool, true, false, eqb, ◌≢◌, List, [], ◌∷◌, ◌++◌, Some, None, Option, sym, refl, ap, ◌∙◌, inl, inr, append_assoc, append-nil, suc-add, zero-add}
 use mathlib.Core.List.{tail-eq_of_cons-eq}
 use Rattle.std.proofs.lemmas.Bool.{both_ways, cases_Bool}
 use Rattle.sheet.specs.declared.tables.Form.{Form}
@@ -15,15 +15,10 @@ use Rattle.tape.specs.declared.entry.Kind.{Kind}
 use Rattle.tape.specs.declared.entry.Kind.TheVariants.{Instruction, Read, Fetch, Write, Store, Name, Release, End}
 use Rattle.tape.specs.Log.{kind_of, secret_view}
 use Rattle.model.proofs.Picked.{covered, picked}
-use Rattle.model.specs.Session.{steps}
 use Rattle.model.proofs.Memory.{Sized}
 use Rattle.model.proofs.Steps.{act_sized}
-use Rattle.model.proofs.Compare.{at, advance, body, Parts}
-
--- all that k steps write
-unfoldable pub trail : Labels → Program → ℕ → Config → List Entry
-trail L p zero c = []
-trail L p (suc k) c = written L p c ++ trail L p k (step p c)
+use Rattle.model.specs.Runs.{advance, trail}
+use Rattle.model.proofs.Compare.{at, body, Parts}
 
 pub advance_add : (p : Program) (j k : ℕ) (c : Config) → advance p (j + k) c ≡ advance p k (advance p j c)
 unfolding advance
@@ -37,21 +32,6 @@ trail_add L p (suc j) k c =
     rw (suc-add j k)
     (ap (λ (t : List Entry). written L p c ++ t) (trail_add L p j k (step p c))
     ∙ sym (append_assoc (written L p c) (trail L p j (step p c)) (trail L p k (advance p j (step p c)))))
-
--- where a run stands, and what it wrote, are those of the steps that it counts
-pub steps_are : (L : Labels) (p : Program) (n room : ℕ) (c : Config) →
-    ((steps L p n room c).config ≡ advance p (steps L p n room c).count c) × ((steps L p n room c).tape ≡ trail L p (steps L p n room c).count c)
-unfolding steps advance trail
-steps_are L p zero room c = elim (cases_Bool (ended c)) [ inl e ↦ (rw e, rw e) | inr e ↦ (rw e, rw e) ]
-steps_are L p (suc n) room c =
-    let ih = steps_are L p n (room - length (written L p c)) (step p c) in
-    elim (cases_Bool (ended c)) [
-      | inl e ↦ (rw e, rw e)
-      | inr e ↦ elim (cases_Bool (ltb room 6)) [
-        | inl f ↦ (rw (e, f), rw (e, f))
-        | inr f ↦ (rw (e, f) ih.0, rw (e, f) (ap (λ (t : List Entry). written L p c ++ t) ih.1))
-      ]
-    ]
 
 pub pick_append : (L : Labels) (q : ℕ) (xs ys : List Entry) → pick L q (xs ++ ys) ≡ pick L q xs ++ pick L q ys
 unfolding pick picked

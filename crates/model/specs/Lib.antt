@@ -5,6 +5,7 @@ pub mod Machine
 pub mod Log
 pub mod Stops
 pub mod Session
+pub mod Runs
 pub mod Secrecy
 pub mod Heights
 pub mod Cases
