@@ -12,7 +12,7 @@ use Rattle.model.specs.Program.{Program, IsVariable, kind_of, label_of, base, ce
 use Rattle.model.specs.Machine.{Memory, Config, inside, held, put}
 use Rattle.model.specs.Session.{State, Call, enter, start, run, look, Done, granted, opened, too_small, has_place, fault, perform, after, looked, at_start, steps}
 use Rattle.model.proofs.Memory.{Sized, put_as}
-use Rattle.model.specs.Runs.{advance, trail}
+use Rattle.model.specs.Runs.{advance, trail, RunsAreOne}
 use Rattle.model.proofs.Tape.{trail_add, advance_add}
 use Rattle.model.proofs.Running.{is_run}
 
@@ -105,7 +105,7 @@ put_numbers p m v i k = go (kind_of p.variables v)
     go Number = length-set m.numbers v k
     go (Array c) = refl
 
--- what a list of calls did from a session that waits: nothing on the tape, or an accepted start and then one run
+-- what a list of calls did from a session that waits: it waits still, with nothing on the tape, or an accepted start and then one run
 pub record Began (L : Labels) (p : Program) (cs : List Call) (s : State) : Type 0 where
   pub from : State
   pub found : at_start L p cs s ≡ Some from
@@ -114,13 +114,13 @@ pub record Began (L : Labels) (p : Program) (cs : List Call) (s : State) : Type 
   pub went : Went L p from.config (after L p cs s)
 
 abbrev pub Before : Labels → Program → List Call → State → Type 0
-Before L p cs s = ((at_start L p cs s ≡ None) × ((after L p cs s).tape ≡ [])) ⊎ Began L p cs s
+Before L p cs s = ((at_start L p cs s ≡ None) × ((after L p cs s).tape ≡ []) × ((after L p cs s).state.config.stack ≡ 1 ∷ [])) ⊎ Began L p cs s
 
 -- a call that writes nothing and is no accepted start
 before_quiet : (L : Labels) (p : Program) (c : Call) (cs : List Call) (s t : State) → perform L p c s ≡ record { state = t; tape = [] } →
     at_start L p (c ∷ cs) s ≡ at_start L p cs t → Before L p cs t → Before L p (c ∷ cs) s
 unfolding after
-before_quiet L p c cs s t e a (inl h) = inl (a ∙ h.0, rw e h.1)
+before_quiet L p c cs s t e a (inl h) = inl (a ∙ h.0, rw e h.1, rw e h.2)
 before_quiet L p c cs s t e a (inr b) =
     inr (record {
       from = b.from;
@@ -140,7 +140,7 @@ start_large L p s e =
 
 pub before_start : (L : Labels) (p : Program) (cs : List Call) (s : State) → Fresh p s → Before L p cs s
 unfolding after at_start
-before_start L p [] s h = inl (refl, refl)
+before_start L p [] s h = inl (refl, refl, h.stack)
 before_start L p (enter q v i k ∷ cs) s h =
     elim (is_refusal (fault L p (enter q v i k) s)) [
       | inl e ↦
@@ -178,6 +178,13 @@ before_start L p (run n room ∷ cs) s h =
 before_start L p (look q v i ∷ cs) s h =
     let g = look_same L p q v i s in
     before_quiet L p (look q v i) cs s s g (rw g) (before_start L p cs s h)
+
+pub runs_are_one : (L : Labels) (p : Program) → RunsAreOne L p
+runs_are_one L p cells cs =
+    elim (before_start L p cs (opened p cells) (opened_fresh p cells)) [
+      | inl n ↦ inl (n.0, n.1)
+      | inr b ↦ inr (b.from, b.found, b.went.count, record { tape = b.went.tape; config = b.went.config })
+    ]
 
 -- what look answers of a place that the party may read
 pub looked_open : (L : Labels) (p : Program) (s : State) (q v i : ℕ) → too_small p s ≡ false → q < L.parties → IsVariable p v → Open L (label_of p.variables v) q → inside p v i ≡ true →

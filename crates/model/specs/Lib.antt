@@ -7,6 +7,8 @@ pub mod Stops
 pub mod Session
 pub mod Runs
 pub mod Secrecy
+pub mod Tapes
 pub mod Heights
+pub mod Copies
 pub mod Cases
 pub mod Faults

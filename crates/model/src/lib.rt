@@ -1,20 +1,23 @@
 // The joint-run machine: what programs mean, which are accepted, and the secrecy of two sessions.
 #![tactic(auto)]
 
-ghost use Rattle.std.specs.Prelude.{◌≤◌, length};
 ghost use Rattle.labels.specs.Labels.{Labels, Lawful};
 ghost use Rattle.model.specs.Program.{Program};
 ghost use Rattle.model.specs.Rules.{Accepted};
 ghost use Rattle.model.specs.Secrecy.{Secrecy};
-ghost use Rattle.model.specs.Heights.{LowStack};
 ghost use Rattle.model.specs.Cases.{Cases};
 
 mod fault;
+mod laws;
 mod place;
 mod rule;
 mod stop;
 
 pub use fault::SessionFault;
+pub use laws::{
+    end_closes_logs, oram_copies, runs_are_one, stack_stays_low, steps_write_six,
+    tapes_are_well_formed,
+};
 pub use place::Place;
 pub use rule::Rule;
 pub use stop::Stop;
@@ -22,13 +25,6 @@ pub use stop::Stop;
 // Two sessions of an accepted program, whatever was entered and called, tell a party no more than it was released.
 pub fn secrecy_holds() -> u8
     ensures { (L : Labels) → Lawful L → (p : Program) → Accepted L p → Secrecy L p }
-{
-    0
-}
-
-// The stack of a session of an accepted program never holds more than 16 records.
-pub fn stack_stays_low() -> u8
-    ensures { (L : Labels) → (p : Program) → Accepted L p → 1 ≤ length p.records → LowStack L p }
 {
     0
 }

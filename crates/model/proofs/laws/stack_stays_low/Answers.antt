@@ -1,4 +1,4 @@
-use Rattle.model.proofs.stack_stays_low.Goals as goal
+use Rattle.model.proofs.laws.stack_stays_low.Goals as goal
 use Rattle.model.proofs.Heights.{low_stack}
 
 pub returns : goal.returns
