@@ -35,10 +35,10 @@ impl<'a> Nested<'a> {
     pub(crate) fn check_depth(&self) -> Result<(), ShapeFault>
         ensures { result ≡ answer (depth_refusal self.now.tables.now.records.items (length self.now.tables.now.records.items)) tt }
     {
-        match self.places.iter().position(|place| place.depth > DEEPEST) {
-            Some(j) => Err(ShapeFault::Depth(j + 1)),
-            None => Ok(()),
-        }
+        self.places
+            .iter()
+            .position(|place| place.depth > DEEPEST)
+            .map_or(Ok(()), |j| Err(ShapeFault::Depth(j + 1)))
     }
 
     // Refuses the first record that breaks a rule.

@@ -38,14 +38,10 @@ impl Tables {
     fn check_variables<O: LabelOrder>(&self, order: &O) -> Result<(), ShapeFault>
         ensures { result ≡ answer (variables_refusal (O.meaning order.now) self.now.variables.items (length self.now.variables.items)) tt }
     {
-        match self
-            .variables
+        self.variables
             .iter()
             .position(|variable| !order.knows(variable.label))
-        {
-            Some(v) => Err(ShapeFault::VariableLabel(v)),
-            None => Ok(()),
-        }
+            .map_or(Ok(()), |v| Err(ShapeFault::VariableLabel(v)))
     }
 
     fn check_records<O: LabelOrder>(&self, order: &O) -> Result<(), ShapeFault>
@@ -74,13 +70,10 @@ impl Tables {
         ensures { result ≡ answer (once_refusal self.now.records.items (length self.now.records.items - 1)) tt }
     {
         let counts = self.count_links();
-        match counts[2..self.records.len() + 1]
+        counts[2..self.records.len() + 1]
             .iter()
             .position(|times| *times != 1)
-        {
-            Some(j) => Err(ShapeFault::LinkedOnce(j + 2)),
-            None => Ok(()),
-        }
+            .map_or(Ok(()), |j| Err(ShapeFault::LinkedOnce(j + 2)))
     }
 
     // What of the shape is asked before the places of the records are known.
