@@ -42,6 +42,7 @@ impl Tables {
     }
 
     // The shape, then the rules.
+    #[tactic(auto, unfolding(crate::specs::Accepting::accept_refusal, crate::specs::Checks::shape_refusal))]
     fn check<O: LabelOrder>(&self, order: &O) -> Result<(), Refusal>
         ensures { result ≡ answer (accept_refusal (O.meaning order.now) (tables_in self.now)) tt }
     {

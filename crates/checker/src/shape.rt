@@ -77,6 +77,7 @@ impl Tables {
     }
 
     // What of the shape is asked before the places of the records are known.
+    #[tactic(auto, unfolding(crate::specs::Checks::entries_refusal))]
     pub(crate) fn check_entries<O: LabelOrder>(&self, order: &O) -> Result<(), ShapeFault>
         ensures { result ≡ answer (entries_refusal (O.meaning order.now) (tables_in self.now)) tt }
     {
