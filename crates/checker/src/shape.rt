@@ -44,7 +44,7 @@ impl Tables {
             .map_or(Ok(()), |v| Err(ShapeFault::VariableLabel(v)))
     }
 
-    #[tactic(auto, unfolding(crate::specs::Checks::records_refusal))]
+    #[tactic(auto, using(refusal::proofs::First::first_clear, refusal::proofs::First::first_stop, crate::proofs::Tests::entry), unfolding(crate::specs::Checks::records_refusal))]
     fn check_records<O: LabelOrder>(&self, order: &O) -> Result<(), ShapeFault>
         ensures { result ≡ answer (records_refusal (O.meaning order.now) self.now.variables.items self.now.records.items (length self.now.records.items)) tt }
     {
