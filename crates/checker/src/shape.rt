@@ -56,6 +56,7 @@ impl Tables {
     }
 
     // How often each record is linked, by its number, in one pass over the records.
+    #[tactic(auto, using(crate::proofs::Tests::times_more, crate::proofs::Tests::few_links, std::proofs::lemmas::List::take_all), unfolding(model::specs::Nesting::times_linked))]
     fn count_links(&self) -> [u16; 513]
         ensures { (k : ℕ) → k < length result → slice_index result k ≡ times_linked self.now.records.items k }
     {
