@@ -1,6 +1,5 @@
 -- The computed checks agree with the shape and the rules. Assumes nothing.
-use Rattle.std.proofs.Common.{◌≡◌, ℕ, zero, suc, ◌+◌, ◌-◌, ◌≤◌, true, eqb, ltb, leb, length, Some, None, Option, Decides, sym, refl, ap, ◌∙◌, subst, arith}
-use Rattle.std.specs.Option.{option_or}
+use Rattle.std.proofs.Common.{◌≡◌, ℕ, zero, suc, ◌+◌, ◌-◌, ◌≤◌, true, eqb, ltb, leb, length, Some, None, Option, Decides, refl, subst, arith}
 use Rattle.std.specs.List.{AllByRecursion}
 use Rattle.std.proofs.lemmas.Bool.{eqb-true, eq-eqb, leb-true, le-leb, and_parts, and_from}
 use Rattle.std.proofs.lemmas.Bool.Decides.{Decides-and, Decides-eqb, Decides-ltb}
@@ -9,7 +8,6 @@ use Rattle.sheet.specs.declared.tables.Form.TheVariants.{Skip, Copy, Constant, B
 use Rattle.sheet.specs.declared.tables.Record.{Record}
 use Rattle.refusal.proofs.First.{both_none, first_none, none_first, passes, test_all}
 use Rattle.labels.specs.Labels.{Labels}
-use Rattle.model.specs.declared.rule.Rule.{Rule}
 use Rattle.model.specs.Nesting.{Rises, links, branches, record_at, times_linked, place, Linked}
 use Rattle.model.specs.Program.{Program, IsVariable, IsRecord, kind_of, label_of, length_of, numbers, arrays}
 use Rattle.model.specs.Rules.{IsNumber, IsArray, Present, RightKinds, SameLength, WellShaped, WellTyped, Keeps}
@@ -18,14 +16,12 @@ use Rattle.rules.specs.declared.faults.ShapeFault.TheVariants.{VariableLabel, Li
 use Rattle.rules.specs.declared.faults.RuleFault.{RuleFault}
 use Rattle.rules.specs.Shape.{is_number, is_array, present, right_kinds, same_length, link_fits, links_fit, record_refusal}
 use Rattle.checker.specs.Checks.{variables_refusal, records_refusal, once_refusal, depth_refusal, entries_refusal, shape_refusal}
-use Rattle.rules.specs.Breaches.{breaks, first_broken, rules}
-use Rattle.checker.specs.Breaches.{labelled_at, fault_at, rules_refusal}
+use Rattle.rules.specs.Breaches.{breaks, rules}
+use Rattle.checker.specs.Breaches.{labelled_at, rule_refusal, rules_refusal}
 use Rattle.rules.proofs.Records.{Passed, all_passed, by_none}
 use Rattle.checker.proofs.Decided.{a_always, a_all, a_number, a_array, a_rises}
+use Rattle.checker.proofs.Joint.{both, map_none, map_some}
 use Rattle.checker.proofs.Deciding.{decided, none_broken, some_broken}
-
-both : {X : Type 0} (o q : Option X) → o ≡ None → q ≡ None → option_or o q ≡ None
-both o q a b = ap (λ x. option_or x q) a ∙ b
 
 module _ (p : Program) where
   a_present : (f : Form) → Decides (present p.variables f) (Present p f)
@@ -138,34 +134,21 @@ module _ (L : Labels) (p : Program) where
       (first_none _ (length p.records - 1) (λ j h. passes (eqb (times_linked p.records (j + 2)) 1) (LinkedOnce (j + 2)) (eq-eqb _ _ (W.sound.linked.once (j + 2) (omega arith) (omega arith)))))))
       (first_none _ (length p.records) (λ j h. passes (leb (place p.records (j + 1)).depth 16) (Depth (j + 1)) (le-leb _ _ (W.sound.shallow (j + 1) (omega arith, omega arith)))))
 
-  fault_none : (k : ℕ) (o : Option Rule) → fault_at k o ≡ None → o ≡ None
-  fault_none k None e = refl
-  fault_none k (Some r) e = absurd cc
-
-  fault_some : (k : ℕ) (o : Option Rule) (f : RuleFault) → fault_at k o ≡ Some f → (o ≡ Some f.rule) × (f.place ≡ k)
-  fault_some k None f e = absurd cc
-  fault_some k (Some r) f e =
-      let w : ◌≡◌ {A = RuleFault} (record { rule = r; place = k }) f = cc in
-      (ap (λ (f : RuleFault). Some f.rule) w, sym (ap (λ (f : RuleFault). f.place) w))
-
   pub rules_sound : rules_refusal L p (length p.records) ≡ None → WellTyped L p
-  unfolding rules_refusal
-  rules_sound e zero h k = absurd (omega arith)
-  rules_sound e (suc j) h k =
-      let q : j + 1 ≡ suc j = omega arith in
-      let n = none_first (λ j. fault_at (j + 1) (first_broken L (labelled_at L p (j + 1)))) (length p.records) e j (omega arith) in
-      let f = subst (λ r. first_broken L (labelled_at L p r) ≡ None) q (fault_none (j + 1) _ n) in
-      (decided L p (suc j) k).0 (none_broken (breaks L (labelled_at L p (suc j))) f k)
+  unfolding rules_refusal rule_refusal
+  rules_sound e r h k =
+      let back : r - 1 + 1 ≡ r = omega arith in
+      let n = none_first (λ j. rule_refusal L p (j + 1)) (length p.records) e (r - 1) (omega arith) in
+      subst (λ r. Keeps L p r k) back ((decided L p (r - 1 + 1) k).0 (none_broken (breaks L (labelled_at L p (r - 1 + 1))) (map_none _ _ n) k))
 
   -- the record named breaks the rule named
   pub rules_breach : (f : RuleFault) → rules_refusal L p (length p.records) ≡ Some f → IsRecord p f.place × (Keeps L p f.place f.rule → ⊥)
-  unfolding rules_refusal
+  unfolding rules_refusal rule_refusal
   rules_breach f e =
-      let t = found_first (λ j. fault_at (j + 1) (first_broken L (labelled_at L p (j + 1)))) (length p.records) f e in
-      let s = fault_some (t.0 + 1) _ f t.2 in
-      let b = some_broken (breaks L (labelled_at L p (t.0 + 1))) rules f.rule s.0 in
-      let at : IsRecord p (t.0 + 1) = (omega arith, omega (arith, t.1)) in
-      (subst (IsRecord p) (sym s.1) at, λ h. (decided L p (t.0 + 1) f.rule).1 b (subst (λ r. Keeps L p r f.rule) s.1 h))
+      let t = found_first (λ j. rule_refusal L p (j + 1)) (length p.records) f e in
+      let s = map_some _ _ f t.2 in
+      let b = some_broken (breaks L (labelled_at L p (t.0 + 1))) rules s.0 s.1 in
+      subst (λ (f : RuleFault). IsRecord p f.place × (Keeps L p f.place f.rule → ⊥)) s.2 ((omega arith, omega (arith, t.1)), (decided L p (t.0 + 1) s.0).1 b)
 
   pub rules_complete : WellTyped L p → rules_refusal L p (length p.records) ≡ None
   rules_complete W = go (rules_refusal L p (length p.records)) refl

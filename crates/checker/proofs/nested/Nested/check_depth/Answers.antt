@@ -1,8 +1,7 @@
-use Rattle.std.proofs.Common.{◌≡◌, ℕ, ◌+◌, Option, List, leb, ltb, not, length, ap, ◌∙◌, sym, rules, tests, arith}
+use Rattle.std.proofs.Common.{◌≡◌, ℕ, ◌+◌, Option, List, leb, ltb, not, length, ap, ◌∙◌, sym, refl, rules, tests, arith}
 use Rattle.std.specs.Option.{option_map}
 use Rattle.std.proofs.lemmas.Iterator.{YieldsList-from_slice}
 use Rattle.std.proofs.lemmas.Iterator.Search.{position_from_yields_List}
-use Rattle.std.proofs.lemmas.List.FromFn.{length-map-range_with_len, get_or-map-range_with_len}
 use Rattle.std.proofs.lemmas.Bool.Decides.{nat_tests}
 use Rattle.sheet.specs.declared.tables.Record.{Record}
 use Rattle.model.specs.declared.place.Place.{Place}
@@ -10,6 +9,7 @@ use Rattle.model.specs.Nesting.{place}
 use Rattle.rules.specs.declared.faults.ShapeFault.TheVariants.{Depth}
 use Rattle.checker.specs.Checks.{depth_refusal}
 use Rattle.checker.specs.Walking.{nested}
+use Rattle.checker.proofs.Surroundings.{long_nested, place_in}
 use Rattle.checker.proofs.Firsts.{Found, first_at, told}
 use Rattle.checker.proofs.nested.Nested.check_depth.Goals as goal
 
@@ -19,12 +19,10 @@ turned n = grind (arith, nat_tests)
 by_first : (rs : List Record) (o : Option ℕ) → Found (λ (q : Place). ltb 16 q.depth) (nested rs) o → option_map (λ j. Depth (j + 1)) o ≡ depth_refusal rs (length rs)
 unfolding depth_refusal
 by_first rs =
-    let at = λ (j : ℕ). place rs (j + 1) in
     let none : Place = record { enclosing = 0; depth = 0 } in
-    let long = length-map-range_with_len at 0 (length rs) in
-    first_at (λ (q : Place). ltb 16 q.depth) (λ j. leb (at j).depth 16) (λ j. Depth (j + 1)) (nested rs) none
-    (λ j h. turned (at j).depth ∙ ap (λ (q : Place). ltb 16 q.depth) (sym (get_or-map-range_with_len at 0 (length rs) j j none (omega (arith, h, long)) (omega arith))))
-    (length rs) long
+    first_at (λ (q : Place). ltb 16 q.depth) (λ j. leb (place rs (j + 1)).depth 16) (λ j. Depth (j + 1)) (nested rs) none
+    (λ j h. turned (place rs (j + 1)).depth ∙ ap (λ (q : Place). ltb 16 q.depth) (sym (place_in rs (j + 1) j none (omega (arith, h, long_nested rs)) refl)))
+    (length rs) (long_nested rs)
 
 pub returns : goal.returns
 returns c =
