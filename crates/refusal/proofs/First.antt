@@ -41,7 +41,3 @@ passed false f e = absurd cc
 
 pub passes : {F : Type 0} (b : Bool) (f : F) → b ≡ true → expect b f ≡ None
 passes b f e = ap (λ t. expect t f) e
-
--- a row of tests, each with its fault, that all passed
-pub test_all : {F : Type 0} (t : ℕ → Bool) (fault : ℕ → F) (n : ℕ) → first_below (λ j. expect (t j) (fault j)) n ≡ None → (j : ℕ) → j < n → t j ≡ true
-test_all t fault n e j h = passed (t j) (fault j) (none_first (λ j. expect (t j) (fault j)) n e j h)
