@@ -104,8 +104,10 @@ module _ (L : Labels) (p : Program) where
       both _ _
       (c_entries.1 (
         W.variable_labels,
-        (λ j h. (W.record_labels _ (at j h), (s.present _ (at j h), (s.kinds _ (at j h), (s.linked.rises (j + 1) (omega arith) (omega arith), s.lengths _ (at j h))))),
-        λ j h. s.linked.once (j + 2) (omega arith) (omega arith)),
+        (
+          λ j h. (W.record_labels _ (at j h), (s.present _ (at j h), (s.kinds _ (at j h), (s.linked.rises (j + 1) (omega arith) (omega arith), s.lengths _ (at j h))))),
+          λ j h. s.linked.once (j + 2) (omega arith) (omega arith),
+        ),
       ))
       (c_depth.1 (λ j h. s.shallow _ (at j h)))
 
