@@ -5,6 +5,7 @@ pub mod Firsts
 pub mod Surroundings
 pub mod Decided
 pub mod Deciding
+pub mod Clear
 pub mod Exact
 pub mod Joint
 pub mod Verdicts

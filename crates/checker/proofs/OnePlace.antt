@@ -1,33 +1,24 @@
 -- Each record stands at one place. Assumes nothing.
-use Rattle.std.proofs.Common.{◌≡◌, ℕ, zero, suc, ◌+◌, ◌<◌, ◌≤◌, List, length, sym, ap, ◌∙◌, subst, inl, inr, ⊎_elim, arith}
+use Rattle.std.proofs.Common.{◌≡◌, ℕ, zero, suc, ◌+◌, ◌<◌, ◌≤◌, List, length, sym, subst, inl, inr, ⊎_elim, arith}
 use Rattle.std.proofs.lemmas.Bool.{cases_lt}
 use Rattle.sheet.specs.declared.tables.Record.{Record}
 use Rattle.model.specs.declared.place.Place.{Place}
-use Rattle.model.specs.Nesting.{Linked, Rises, place, Stands, first, next, branch, StandsOnce}
-use Rattle.model.proofs.Linkers.{place_next, place_branch}
-use Rattle.checker.proofs.Walks.{above, in_range}
-use Rattle.checker.proofs.Reaches.{To, linked_from}
+use Rattle.model.specs.Nesting.{Linked, place, Stands, first, next, branch, StandsOnce}
+use Rattle.checker.proofs.Walks.{To, on_next, on_branch}
+use Rattle.checker.proofs.Reaches.{linked_from}
 use Rattle.model.proofs.Places.{main_place}
 
 module _ (rs : List Record) (some : 1 ≤ length rs) (well : Linked rs) where
-  link_rises : (k j : ℕ) → 1 ≤ k → k ≤ length rs → To rs k j → Rises (length rs) k j
-  link_rises k j low high (inl e) = subst (Rises (length rs) k) e (well.rises k low high).0
-  link_rises k j low high (inr (inl e)) = subst (Rises (length rs) k) e (well.rises k low high).1.0
-  link_rises k j low high (inr (inr e)) = subst (Rises (length rs) k) e (well.rises k low high).1.1.0
-
   only : {k : ℕ} {p : Place} → Stands rs k p → (1 ≤ k) × (k ≤ length rs) × (p ≡ place rs k)
   only first = (omega arith, some, sym (main_place rs))
-  only (next {k} j low s e) =
+  only (next {k} {p} j low s e) =
       let h = only s in
-      let up = link_rises k j h.0 h.1 (inl e) in
-      (low, in_range (length rs) k j up, h.2 ∙ sym (place_next rs well k j h.0 (above (length rs) k j up low) (in_range (length rs) k j up) e))
-  only (branch {k} j low s e) =
+      let o = on_next rs well k j h.0 h.1 p h.2 e in
+      (low, o.1, o.2 low)
+  only (branch {k} {p} j low s e) =
       let h = only s in
-      let up = link_rises k j h.0 h.1 (inr e) in (
-        low,
-        in_range (length rs) k j up,
-        ap (λ (q : Place). record { enclosing = k; depth = q.depth + 1 }) h.2 ∙ sym (place_branch rs well k j h.0 (above (length rs) k j up low) (in_range (length rs) k j up) e),
-      )
+      let o = on_branch rs well k j h.0 h.1 p h.2 e in
+      (low, o.1, o.2 low)
 
   by_link : (k j : ℕ) → 1 ≤ j → To rs k j → Stands rs k (place rs k) → (p : Place) × Stands rs j p
   by_link k j low (inl e) s = (place rs k, next j low s e)

@@ -47,7 +47,7 @@ sheet_program bs = program (sheet_variables bs) (sheet_records bs)
 unfoldable pub accept_refusal : Labels → Program → Option Refusal
 accept_refusal L p = option_or (option_map shape_refusal_of (shape_refusal L p)) (option_map rule_refusal_of (rules_refusal L p (length p.records)))
 
--- no refusal
+-- the check of the tables under the order refuses nothing
 abbrev pub is_accepted : Labels → Program → Bool
 is_accepted L p = not (is_some (accept_refusal L p))
 

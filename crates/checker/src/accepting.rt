@@ -42,6 +42,7 @@ impl Tables {
     }
 
     // The shape, then the rules.
+    #[tactic(auto, unfolding(crate::specs::Accepting::accept_refusal, crate::specs::Checks::shape_refusal))]
     fn check<O: LabelOrder>(&self, order: &O) -> Result<(), Refusal>
         ensures { result ≡ answer (accept_refusal (O.meaning order.now) (tables_in self.now)) tt }
     {
@@ -58,7 +59,7 @@ impl<O: LabelOrder> Program<O> {
     pub fn new(order: O) -> Program<O>
         ensures { contents result ≡ holding order (smallest (O.meaning order).public) }
     {
-        let label = order.public();
+        let label = O::P;
         let number = Variable {
             label,
             ..Variable::default()

@@ -38,16 +38,13 @@ impl Tables {
     fn check_variables<O: LabelOrder>(&self, order: &O) -> Result<(), ShapeFault>
         ensures { result ≡ answer (variables_refusal (O.meaning order.now) self.now.variables.items (length self.now.variables.items)) tt }
     {
-        match self
-            .variables
+        self.variables
             .iter()
             .position(|variable| !order.knows(variable.label))
-        {
-            Some(v) => Err(ShapeFault::VariableLabel(v)),
-            None => Ok(()),
-        }
+            .map_or(Ok(()), |v| Err(ShapeFault::VariableLabel(v)))
     }
 
+    #[tactic(auto, using(refusal::proofs::First::first_clear, refusal::proofs::First::first_stop, crate::proofs::Tests::entry), unfolding(crate::specs::Checks::records_refusal))]
     fn check_records<O: LabelOrder>(&self, order: &O) -> Result<(), ShapeFault>
         ensures { result ≡ answer (records_refusal (O.meaning order.now) self.now.variables.items self.now.records.items (length self.now.records.items)) tt }
     {
@@ -59,6 +56,7 @@ impl Tables {
     }
 
     // How often each record is linked, by its number, in one pass over the records.
+    #[tactic(auto, using(crate::proofs::Tests::times_more, crate::proofs::Tests::few_links, std::proofs::lemmas::List::take_all), unfolding(model::specs::Nesting::times_linked))]
     fn count_links(&self) -> [u16; 513]
         ensures { (k : ℕ) → k < length result → slice_index result k ≡ times_linked self.now.records.items k }
     {
@@ -74,16 +72,14 @@ impl Tables {
         ensures { result ≡ answer (once_refusal self.now.records.items (length self.now.records.items - 1)) tt }
     {
         let counts = self.count_links();
-        match counts[2..self.records.len() + 1]
+        counts[2..self.records.len() + 1]
             .iter()
             .position(|times| *times != 1)
-        {
-            Some(j) => Err(ShapeFault::LinkedOnce(j + 2)),
-            None => Ok(()),
-        }
+            .map_or(Ok(()), |j| Err(ShapeFault::LinkedOnce(j + 2)))
     }
 
     // What of the shape is asked before the places of the records are known.
+    #[tactic(auto, unfolding(crate::specs::Checks::entries_refusal))]
     pub(crate) fn check_entries<O: LabelOrder>(&self, order: &O) -> Result<(), ShapeFault>
         ensures { result ≡ answer (entries_refusal (O.meaning order.now) (tables_in self.now)) tt }
     {

@@ -9,6 +9,7 @@ use rules::{branches, record_at};
 
 impl Tables {
     // Fills in the places of record k and of all that its links lead to. The links rise, so fewer records are left at each call.
+    #[tactic(auto, using(model::proofs::Linkers::depth_low))]
     pub(crate) fn walk(&self, k: usize, here: Place, out: &mut [Place])
         requires linked { Linked self.now.records.items }
         requires fits { (length self.now.records.items ≤ length out.old) × (k ≤ length self.now.records.items) }

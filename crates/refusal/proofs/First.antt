@@ -9,19 +9,15 @@ both_none None p e = (refl, e)
 both_none (Some x) p e = absurd cc
 
 module _ {X : Type 0} (f : ℕ → Option X) where
-  -- one more index
-  pub first_more : (n : ℕ) → first_below f (n + 1) ≡ option_or (first_below f n) (f n)
-  first_more n = ap (first_below f) (add-one n)
-
   pub first_clear : (n : ℕ) → first_below f n ≡ None → f n ≡ None → first_below f (n + 1) ≡ None
-  first_clear n p q = first_more n ∙ grind (arith, p, q)
+  first_clear n p q = rw (add-one n, p) q
 
   -- a refusal stays the first one
-  pub first_stays : (x : X) (m n : ℕ) → m ≤ n → first_below f m ≡ Some x → first_below f n ≡ Some x
+  first_stays : (x : X) (m n : ℕ) → m ≤ n → first_below f m ≡ Some x → first_below f n ≡ Some x
   first_stays x m zero h e = let z : m ≡ 0 = omega arith in subst (λ k. first_below f k ≡ Some x) z e
   first_stays x m (suc n) h e =
       ⊎_elim
-      (λ lt. let p = first_stays x m n (omega arith) e in ap (λ o. option_or o (f n)) p)
+      (λ lt. ap (λ o. option_or o (f n)) (first_stays x m n (omega arith) e))
       (λ ge. let z : m ≡ suc n = omega arith in subst (λ k. first_below f k ≡ Some x) z e)
       (cases_lt m (suc n))
 
@@ -45,14 +41,3 @@ passed false f e = absurd cc
 
 pub passes : {F : Type 0} (b : Bool) (f : F) → b ≡ true → expect b f ≡ None
 passes b f e = ap (λ t. expect t f) e
-
--- a row of tests, each with its fault
-module _ {F : Type 0} (t : ℕ → Bool) (fault : ℕ → F) where
-  pub test_stop : (j n : ℕ) → j < n → first_below (λ j. expect (t j) (fault j)) j ≡ None → t j ≡ false → first_below (λ j. expect (t j) (fault j)) n ≡ Some (fault j)
-  test_stop j n h e off = first_stop (λ j. expect (t j) (fault j)) _ j n h e (ap (λ b. expect b (fault j)) off)
-
-  pub test_more : (j : ℕ) → first_below (λ j. expect (t j) (fault j)) j ≡ None → t j ≡ true → first_below (λ j. expect (t j) (fault j)) (j + 1) ≡ None
-  test_more j e on = first_clear (λ j. expect (t j) (fault j)) j e (ap (λ b. expect b (fault j)) on)
-
-  pub test_all : (n : ℕ) → first_below (λ j. expect (t j) (fault j)) n ≡ None → (j : ℕ) → j < n → t j ≡ true
-  test_all n e j h = passed (t j) (fault j) (none_first (λ j. expect (t j) (fault j)) n e j h)

@@ -1,5 +1,6 @@
 -- The type rules as tests on labels that are looked up, and the first rule that a program breaks. Assumes nothing.
-use Rattle.std.specs.Prelude.{ℕ, Bool, cond, not, ◌&&◌, List, [], ◌∷◌, Some, None, Option, ◌==◌, nat_le}
+use Rattle.std.specs.Prelude.{ℕ, Bool, cond, not, ◌&&◌, List, [], ◌∷◌, Option, ◌==◌, nat_le}
+use Rattle.std.specs.List.{find}
 use Rattle.sheet.specs.declared.tables.Form.{Form}
 use Rattle.sheet.specs.declared.tables.Form.TheVariants as form
 use Rattle.sheet.specs.declared.tables.Variable.{Variable}
@@ -59,10 +60,6 @@ breaks L r Oram = r.form == 10 && not (r.x == L.secret && not (r.a == L.secret))
 abbrev pub rules : List Rule
 rules = Around ∷ Target ∷ Source ∷ Index ∷ Guard ∷ OpenGuard ∷ Special ∷ Declass ∷ Oram ∷ []
 
-abbrev pub first_that : (Rule → Bool) → List Rule → Option Rule
-first_that p [] = None
-first_that p (r ∷ rs) = cond (p r) (Some r) (first_that p rs)
-
 -- the lowest rule that is broken
 abbrev pub first_broken : Labels → Labelled → Option Rule
-first_broken L r = first_that (breaks L r) rules
+first_broken L r = find (breaks L r) rules

@@ -1,11 +1,12 @@
 -- What the shape of one record must keep, as tests: 21, 22, 23, 24 and 27 in their order. Assumes nothing.
-use Rattle.std.specs.Prelude.{ℕ, Bool, true, false, ◌&&◌, ◌||◌, ltb, List, [], ◌∷◌, length, Option, ◌==◌, nat_le, nat_lt}
+use Rattle.std.specs.Prelude.{ℕ, Bool, true, false, ◌&&◌, ◌||◌, List, length, Option, ◌==◌, nat_le, nat_lt}
+use Rattle.std.specs.List.{list_all}
 use Rattle.std.specs.Option.{option_or}
 use Rattle.refusal.specs.Answers.{expect}
 use Rattle.sheet.specs.declared.tables.Kind.{Kind}
 use Rattle.sheet.specs.declared.tables.Kind.TheVariants.{Number, Array}
 use Rattle.sheet.specs.declared.tables.Form.{Form}
-use Rattle.sheet.specs.declared.tables.Form.TheVariants.{Skip, Copy, Constant, Binary, Fetch, Mux, Store, If, While, Declass, Oram}
+use Rattle.sheet.specs.declared.tables.Form.TheVariants.{Oram}
 use Rattle.sheet.specs.declared.tables.Variable.{Variable}
 use Rattle.sheet.specs.declared.tables.Record.{Record}
 use Rattle.labels.specs.Labels.{Labels}
@@ -13,10 +14,6 @@ use Rattle.model.specs.Nesting.{branches}
 use Rattle.model.specs.Program.{kind_of, length_of, numbers, arrays}
 use Rattle.rules.specs.declared.faults.ShapeFault.{ShapeFault}
 use Rattle.rules.specs.declared.faults.ShapeFault.TheVariants.{RecordLabel, NoVariable, WrongKind, Link, OramLength}
-
-abbrev pub all : (ℕ → Bool) → List ℕ → Bool
-all t [] = true
-all t (v ∷ vs) = t v && all t vs
 
 abbrev pub is_number : Kind → Bool
 is_number Number = true
@@ -27,23 +24,14 @@ is_array Number = false
 is_array (Array n) = true
 
 abbrev pub present : List Variable → Form → Bool
-present vs f = all (λ v. ltb v (length vs)) (numbers f) && all (λ v. ltb v (length vs)) (arrays f)
+present vs f = list_all (λ v. nat_lt v (length vs)) (numbers f) && list_all (λ v. nat_lt v (length vs)) (arrays f)
 
 abbrev pub right_kinds : List Variable → Form → Bool
-right_kinds vs f = all (λ v. is_number (kind_of vs v)) (numbers f) && all (λ v. is_array (kind_of vs v)) (arrays f)
+right_kinds vs f = list_all (λ v. is_number (kind_of vs v)) (numbers f) && list_all (λ v. is_array (kind_of vs v)) (arrays f)
 
 abbrev pub same_length : List Variable → Form → Bool
-same_length vs Skip = true
-same_length vs (Copy x a) = true
-same_length vs (Constant x k) = true
-same_length vs (Binary x a b op) = true
-same_length vs (Fetch x a b) = true
-same_length vs (Mux x a b c) = true
-same_length vs (Store x a b) = true
-same_length vs (If a first second) = true
-same_length vs (While a body) = true
-same_length vs (Declass x a) = true
 same_length vs (Oram x a) = length_of vs x == length_of vs a
+same_length vs f = true
 
 -- a link of record k, of n records
 abbrev pub link_fits : ℕ → ℕ → ℕ → Bool

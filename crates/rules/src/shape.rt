@@ -1,10 +1,11 @@
 // What the shape of one record must keep: its label, its variables, its links.
 // A table and a variable, or a record and the count, are what one question asks; they are no thing of their own.
 ghost use Rattle.std.specs.Prelude.{◌≡◌, ℕ, ◌-◌, ◌<◌, Bool, ◌&&◌, length, nat_lt};
+ghost use Rattle.std.specs.List.{list_all};
 ghost use Rattle.refusal.specs.Answers.{answer};
 ghost use Rattle.model.specs.Nesting.{branches, record_at};
 ghost use Rattle.model.specs.Program.{variable_at, numbers, arrays};
-ghost use Rattle.rules.specs.Shape.{all, is_number, is_array, present, right_kinds, same_length, link_fits, links_fit, record_refusal};
+ghost use Rattle.rules.specs.Shape.{is_number, is_array, present, right_kinds, same_length, link_fits, links_fit, record_refusal};
 
 use crate::faults::ShapeFault;
 use labels::LabelOrder;
@@ -51,7 +52,7 @@ fn is_array(variables: &[Variable], v: u8) -> bool
 fn all_pass<N: Fn(u8) -> bool, A: Fn(u8) -> bool>(form: Form, number: N, array: A) -> bool
     requires numbers { N.IsAlwaysCallable number }
     requires arrays { A.IsAlwaysCallable array }
-    ensures { (p q : ℕ → Bool) → ((v : ℕ) (r : Bool) → N.post number v r → r ≡ p v) → ((v : ℕ) (r : Bool) → A.post array v r → r ≡ q v) → result ≡ (all p (numbers form) && all q (arrays form)) }
+    ensures { (p q : ℕ → Bool) → ((v : ℕ) (r : Bool) → N.post number v r → r ≡ p v) → ((v : ℕ) (r : Bool) → A.post array v r → r ≡ q v) → result ≡ (list_all p (numbers form) && list_all q (arrays form)) }
 {
     match form {
         Form::Skip => true,

@@ -31,6 +31,7 @@ impl fmt::Display for Sizes {
 
 // Reads the bytes and fills the program that the host lends with the sheet's tables, unless it is refused: faults of the
 // sheet, of its shape and of its rules pass up with their layer and place.
+#[tactic(auto, using(sheet::proofs::Validity::read_accepted))]
 pub fn read_and_accept<O: LabelOrder>(
     bytes: &[u8],
     order: &O,
