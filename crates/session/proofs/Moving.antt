@@ -3,7 +3,7 @@ use Rattle.std.proofs.Common.{◌≡◌, ℕ, zero, suc, ◌<◌, ◌≤◌, Boo
 use Rattle.labels.specs.declared.order.LabelOrder as LabelOrder
 use Rattle.std.proofs.lemmas.Bool.{and_parts, and_from, or_cases, or_right, eqb-true, ltb-true, leb-true, lt-ltb, le-leb, cond_both}
 use Rattle.sheet.specs.declared.tables.Form.{Form}
-use Rattle.sheet.specs.declared.tables.Form.TheVariants.{Skip, Copy, Constant, Binary, Fetch, Mux, Store, If, While, Declass, Oram}
+use Rattle.sheet.specs.declared.tables.Form.TheVariants.{If, While}
 use Rattle.sheet.specs.declared.tables.Record.{Record}
 use Rattle.model.specs.Nesting.{record_at, branches}
 use Rattle.model.specs.Program.{Program}
@@ -24,57 +24,25 @@ no_more x rest = refl
 
 pub onward_moved : (p : Program) (r next : ℕ) (f : Form) (m : Memory) (rest : List ℕ) →
     stripped ((moved p r next f m).1 ∷ ((moved p r next f m).0 ∷ rest)) ≡ stripped (onward p r next f m rest)
-onward_moved p r next Skip m rest = no_more next rest
-onward_moved p r next (Copy x a) m rest = no_more next rest
-onward_moved p r next (Constant x k) m rest = no_more next rest
-onward_moved p r next (Binary x a b op) m rest = no_more next rest
-onward_moved p r next (Fetch x a b) m rest = no_more next rest
-onward_moved p r next (Mux x a b c) m rest = no_more next rest
-onward_moved p r next (Store x a b) m rest = no_more next rest
 onward_moved p r next (If a first second) m rest = refl
 onward_moved p r next (While a body) m rest = go (holds (held p m a 0))
   where
     go : (t : Bool) → stripped ((cond {A = ℕ × ℕ} t (r, body) (next, 0)).1 ∷ ((cond {A = ℕ × ℕ} t (r, body) (next, 0)).0 ∷ rest)) ≡ stripped (cond t (body ∷ (r ∷ rest)) (next ∷ rest))
     go true = refl
     go false = no_more next rest
-onward_moved p r next (Declass x a) m rest = no_more next rest
-onward_moved p r next (Oram x a) m rest = no_more next rest
+onward_moved p r next f m rest = no_more next rest
 
 -- what is put above is a branch, or nothing
 above_fits : (p : Program) (r next count : ℕ) (f : Form) (m : Memory) → link_fits count r (branches f).0 ≡ true → link_fits count r (branches f).1 ≡ true → link_fits count r (moved p r next f m).1 ≡ true
-above_fits p r next count Skip m g h = refl
-above_fits p r next count (Copy x a) m g h = refl
-above_fits p r next count (Constant x k) m g h = refl
-above_fits p r next count (Binary x a b op) m g h = refl
-above_fits p r next count (Fetch x a b) m g h = refl
-above_fits p r next count (Mux x a b c) m g h = refl
-above_fits p r next count (Store x a b) m g h = refl
 above_fits p r next count (If a first second) m g h = cond_both (holds (held p m a 0)) first second (λ l. link_fits count r l ≡ true) (λ _. g) (λ _. h)
-above_fits p r next count (While a body) m g h = go (holds (held p m a 0))
-  where
-    go : (t : Bool) → link_fits count r (cond {A = ℕ × ℕ} t (r, body) (next, 0)).1 ≡ true
-    go true = g
-    go false = refl
-above_fits p r next count (Declass x a) m g h = refl
-above_fits p r next count (Oram x a) m g h = refl
+above_fits p r next count (While a body) m g h = cond_both (holds (held p m a 0)) (r, body) (next, 0) (λ (t : ℕ × ℕ). link_fits count r t.1 ≡ true) (λ _. g) (λ _. refl)
+above_fits p r next count f m g h = refl
 
 -- what takes the place of r is r itself, or the record after it
 place_cases : (p : Program) (r next : ℕ) (f : Form) (m : Memory) → ((moved p r next f m).0 ≡ r) ⊎ ((moved p r next f m).0 ≡ next)
-place_cases p r next Skip m = inr refl
-place_cases p r next (Copy x a) m = inr refl
-place_cases p r next (Constant x k) m = inr refl
-place_cases p r next (Binary x a b op) m = inr refl
-place_cases p r next (Fetch x a b) m = inr refl
-place_cases p r next (Mux x a b c) m = inr refl
-place_cases p r next (Store x a b) m = inr refl
-place_cases p r next (If a first second) m = inr refl
-place_cases p r next (While a body) m = go (holds (held p m a 0))
-  where
-    go : (t : Bool) → ((cond {A = ℕ × ℕ} t (r, body) (next, 0)).0 ≡ r) ⊎ ((cond {A = ℕ × ℕ} t (r, body) (next, 0)).0 ≡ next)
-    go true = inl refl
-    go false = inr refl
-place_cases p r next (Declass x a) m = inr refl
-place_cases p r next (Oram x a) m = inr refl
+place_cases p r next (While a body) m =
+    cond_both (holds (held p m a 0)) (r, body) (next, 0) (λ (t : ℕ × ℕ). (t.0 ≡ r) ⊎ (t.0 ≡ next)) (λ _. inl refl) (λ _. inr refl)
+place_cases p r next f m = inr refl
 
 -- a link as numbers
 Rises : ℕ → ℕ → ℕ → Type 0
