@@ -19,8 +19,8 @@ use Rattle.sheet.proofs.TableChecks.{from_limits, counted, layout_fits}
 -- lists that agree at each place are equal
 same_list : {X : Type 0} (xs ys : List X) → ((k : ℕ) → slice_get xs k ≡ slice_get ys k) → xs ≡ ys
 same_list [] [] h = refl
-same_list [] (y ∷ ys) h = let e = h 0 in let z : ◌≡◌ {A = ℕ} 0 1 = cc in absurd (omega arith)
-same_list (x ∷ xs) [] h = let e = h 0 in let z : ◌≡◌ {A = ℕ} 0 1 = cc in absurd (omega arith)
+same_list [] (y ∷ ys) h = let e = h 0 in cc
+same_list (x ∷ xs) [] h = let e = h 0 in cc
 same_list (x ∷ xs) (y ∷ ys) h =
     let e = h 0 in
     let t = same_list xs ys (λ k. h (suc k)) in

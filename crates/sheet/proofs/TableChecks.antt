@@ -18,20 +18,21 @@ unfolding variables_refusal
 none_yet bs = refl
 
 -- the check of variable k, whose bytes are row
-module _ (bs : List ℕ) (k total : ℕ) (row : List ℕ) (is : row ≡ variable_part bs k) (sum : total ≡ cells_below bs k) (clear : variables_refusal bs k ≡ None) where
-  same : variable_refusal (variable_place k) total row ≡ variable_refusal (variable_place k) (cells_below bs k) (variable_part bs k)
-  same = (λ i. variable_refusal (variable_place k) (sum i) (is i))
+module _ (bs : List ℕ) (k place total : ℕ) (row : List ℕ) (here : place ≡ variable_place k) (is : row ≡ variable_part bs k) (sum : total ≡ cells_below bs k)
+    (clear : variables_refusal bs k ≡ None) where
+  same : variable_refusal place total row ≡ variable_refusal (variable_place k) (cells_below bs k) (variable_part bs k)
+  same = λ i. variable_refusal (here i) (sum i) (is i)
 
-  pub stops : (n : ℕ) (f : SheetFault) → k < n → variable_refusal (variable_place k) total row ≡ Some f → variables_refusal bs n ≡ Some f
+  pub stops : (n : ℕ) (f : SheetFault) → k < n → variable_refusal place total row ≡ Some f → variables_refusal bs n ≡ Some f
   unfolding variables_refusal
   stops n f h e = first_stop _ f k n h clear (sym same ∙ e)
 
-  pub goes_on : (next : ℕ) → variable_refusal (variable_place k) total row ≡ None → next ≡ total + word16 row 2
+  pub goes_on : (next : ℕ) → variable_refusal place total row ≡ None → next ≡ total + word16 row 2
       → (next ≡ cells_below bs (k + 1)) × (next ≤ 16384) × (variables_refusal bs (k + 1) ≡ None)
   unfolding variables_refusal
   goes_on next e add = (
     add ∙ (λ i. sum i + word16 (is i) 2) ∙ sym (ap (cells_below bs) (add-one k)),
-    omega (arith, variable_few (variable_place k) total row e),
+    omega (arith, variable_few place total row e),
     first_clear _ k clear (sym same ∙ e),
   )
 

@@ -7,7 +7,7 @@ ghost use Rattle.sheet.specs.Exact.{ReadsExactly};
 
 use crate::codec::{record_of, variable_of};
 use crate::faults::SheetFault;
-use crate::reading::{check_sheet, record_place};
+use crate::reading::{check_sheet, record_place, variable_place};
 use crate::sheet::ReadSheet;
 use crate::tables::{Record, Variable};
 
@@ -63,7 +63,7 @@ impl<'a> ReadSheet<'a> {
         if k >= self.variables() {
             return None;
         }
-        let p = 4 + 4 * k;
+        let p = variable_place(k);
         variable_of(&self.bytes[p..p + 4])
     }
 

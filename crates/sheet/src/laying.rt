@@ -6,7 +6,7 @@ ghost use Rattle.sheet.specs.Exact.{LaysExactly};
 ghost use Rattle.sheet.specs.Layout.{tables_refusal, layout_refusal, laid_over, over};
 
 use crate::faults::SheetFault;
-use crate::reading::{check_counts, check_variable, record_place};
+use crate::reading::{check_counts, check_variable, record_place, variable_place};
 use crate::tables::{Record, Variable};
 use crate::writing::{Row, put, put_rows};
 
@@ -25,7 +25,7 @@ impl<'a> Tables<'a> {
         check_counts(self.variables.len(), self.records.len())?;
         let mut total = 0;
         for (k, variable) in self.variables.iter().enumerate() {
-            total = check_variable(&variable.bytes(), 4 + 4 * k, total)?;
+            total = check_variable(&variable.bytes(), variable_place(k), total)?;
         }
         Ok(())
     }

@@ -21,7 +21,7 @@ returns-in_err-total c =
     let is = c.bytes.ensures ∙ sym (variable_part_is vs rs c.loop-k.k _ c.loop-k-test.true) in
     leaves _ _ _ tt c.from_residual-in_err-total.ensures.1
     (only_variables vs rs (accepted _ _ _ c.in_ok-check_counts.ensures).0
-    ∙ stops (sheet_bytes vs rs) c.loop-k.k c.loop-k.total _ is c.loop-k.invariant.0 c.loop-k.invariant.2 _ _ c.loop-k-test.true (refused _ _ _ c.in_err-total.ensures))
+    ∙ stops (sheet_bytes vs rs) c.loop-k.k _ c.loop-k.total _ c.variable_place.ensures is c.loop-k.invariant.0 c.loop-k.invariant.2 _ _ c.loop-k-test.true (refused _ _ _ c.in_err-total.ensures))
 
 pub loop-k-preserved : goal.loop-k-preserved
 loop-k-preserved c =
@@ -29,7 +29,7 @@ loop-k-preserved c =
     let rs = c.args.self.now.records.now in
     let is = c.bytes.ensures ∙ sym (variable_part_is vs rs c.loop-k.k _ c.loop-k-test.true) in
     let h = accepted _ _ _ c.in_ok-total.ensures in
-    goes_on (sheet_bytes vs rs) c.loop-k.k c.loop-k.total _ is c.loop-k.invariant.0 c.loop-k.invariant.2 _ h.0 h.1
+    goes_on (sheet_bytes vs rs) c.loop-k.k _ c.loop-k.total _ c.variable_place.ensures is c.loop-k.invariant.0 c.loop-k.invariant.2 _ h.0 h.1
 
 pub returns : goal.returns
 returns c =
