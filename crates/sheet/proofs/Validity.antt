@@ -1,5 +1,6 @@
 -- A sheet is what is not refused. Assumes nothing.
-use Rattle.std.proofs.Common.{◌≡◌, ℕ, Bool, true, false, cond, not, List, is_some, Some, None, Option, sym, refl, ap}
+use Rattle.std.proofs.Common.{◌≡◌, ℕ, true, cond, not, List, is_some, Some, None, Option, sym, refl, ap}
+use Rattle.std.proofs.lemmas.Bool.{false≢true}
 use Rattle.refusal.proofs.First.{both_none}
 use Rattle.sheet.proofs.Header.{Header, header}
 use Rattle.sheet.specs.declared.faults.SheetFault.{SheetFault}
@@ -8,7 +9,7 @@ use Rattle.sheet.specs.Valid.{valid, read}
 
 none : (o : Option SheetFault) → not (is_some o) ≡ true → o ≡ None
 none None e = refl
-none (Some f) e = let z : ◌≡◌ {A = Bool} false true = e in cc
+none (Some f) e = absurd (false≢true e)
 
 pub none_from_valid : (bs : List ℕ) → valid bs ≡ true → sheet_refusal bs ≡ None
 unfolding valid

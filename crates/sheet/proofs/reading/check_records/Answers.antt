@@ -1,4 +1,4 @@
-use Rattle.std.proofs.Common.{◌≡◌, ◌+◌, ◌*◌, ap, sym, ◌∙◌, refl, arith}
+use Rattle.std.proofs.Common.{◌≡◌, ap, sym, ◌∙◌, refl, arith}
 use Rattle.refusal.specs.Answers.{answer}
 use Rattle.sheet.specs.Reading.{records_refusal, record_refusal, record_place}
 use Rattle.refusal.proofs.First.{first_clear, first_stop}

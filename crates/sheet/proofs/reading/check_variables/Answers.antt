@@ -1,4 +1,4 @@
-use Rattle.std.proofs.Common.{◌≡◌, ◌+◌, ◌*◌, ap, sym, ◌∙◌, refl, arith}
+use Rattle.std.proofs.Common.{◌≡◌, ap, sym, ◌∙◌, refl, arith}
 use Rattle.refusal.specs.Answers.{answer}
 use Rattle.sheet.specs.Reading.{variables_refusal, variable_place}
 use Rattle.refusal.proofs.Answering.{accepted, refused, leaves}

@@ -4,12 +4,12 @@ use Rattle.refusal.specs.Answers.{answer}
 use Rattle.sheet.specs.Reading.{variables_refusal}
 use Rattle.refusal.proofs.Answering.{accepted, refused, leaves}
 use Rattle.sheet.proofs.ReadsBack.{variable_part_is}
-use Rattle.sheet.proofs.TableChecks.{refused_counts, only_variables, none_yet, stops, goes_on}
+use Rattle.sheet.proofs.TableChecks.{counted, only_variables, none_yet, stops, goes_on}
 use Rattle.sheet.proofs.laying.Tables.check.Goals as goal
 
 pub returns-in_err-check_counts : goal.returns-in_err-check_counts
 returns-in_err-check_counts c =
-    leaves _ _ _ tt c.from_residual.ensures.1 (refused_counts c.args.self.now.variables.now c.args.self.now.records.now _ (refused _ _ _ c.in_err-check_counts.ensures))
+    leaves _ _ _ tt c.from_residual.ensures.1 (counted c.args.self.now.variables.now c.args.self.now.records.now _ (refused _ _ _ c.in_err-check_counts.ensures))
 
 pub loop-k-init : goal.loop-k-init
 loop-k-init c = (refl, omega arith, none_yet (sheet_bytes c.args.self.now.variables.now c.args.self.now.records.now))
