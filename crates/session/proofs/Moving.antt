@@ -69,16 +69,13 @@ piled_stripped count (zero ∷ s) h = piled_stripped count s h
 piled_stripped count (suc r ∷ s) h = h
 
 -- record n on top of a clean stack that climbs
-module _ {A : Type 0} {g : LabelOrder.Ghosts A} (q : checked.Program A g) (m : Memory) (st : List ℕ) (n : ℕ) (rest : List ℕ) (r : Record) (on : st ≡ n ∷ rest)
+module _ {A : Type 0} {g : LabelOrder.Ghosts A} (q : checked.Program A g) (st : List ℕ) (n : ℕ) (rest : List ℕ) (r : Record) (on : st ≡ n ∷ rest)
     (is : r ≡ record_at (contents q).tables.records n) (climbs : piled (records_in q) st ≡ true) (clean : stripped st ≡ st) where
   abbrev p : Program
   p = (contents q).tables
 
   abbrev count : ℕ
   count = records_in q
-
-  abbrev size : ℕ
-  size = length p.records
 
   parts : (link_fits count (length rest) n ≡ true) × (piled count rest ≡ true)
   parts = and_parts _ _ (ap (piled count) (sym on) ∙ climbs)
@@ -93,41 +90,38 @@ module _ {A : Type 0} {g : LabelOrder.Ghosts A} (q : checked.Program A g) (m : M
   pub top_runs : Runs p r.form
   top_runs = let t = within in subst (λ (x : Record). Runs p x.form) (sym is) (record_runs q n t.0 t.2)
 
-  links : (link_fits size n r.next ≡ true) × (link_fits size n (branches r.form).0 ≡ true) × (link_fits size n (branches r.form).1 ≡ true)
+  links : (link_fits count n r.next ≡ true) × (link_fits count n (branches r.form).0 ≡ true) × (link_fits count n (branches r.form).1 ≡ true)
   links =
       let t = within in
-      subst (λ (x : Record). (link_fits size n x.next ≡ true) × (link_fits size n (branches x.form).0 ≡ true) × (link_fits size n (branches x.form).1 ≡ true)) (sym is)
+      subst (λ (x : Record). (link_fits count n x.next ≡ true) × (link_fits count n (branches x.form).0 ≡ true) × (link_fits count n (branches x.form).1 ≡ true)) (sym is)
       (record_links q n t.0 t.2)
 
-  abbrev place : ℕ
-  place = (moved p n r.next r.form m).0
+  -- what takes its place, and what is put above
+  module _ (m : Memory) (place above : ℕ) (moves : (place, above) ≡ moved p n r.next r.form m) where
+    above_within : 0 < above → (n < above) × (above ≤ count)
+    unfolding Rises
+    above_within = rises count n above (ap (λ (t : ℕ × ℕ). link_fits count n t.1) moves ∙ above_fits p n r.next count r.form m links.1 links.2)
 
-  abbrev above : ℕ
-  above = (moved p n r.next r.form m).1
+    place_within : 0 < place → (length rest < place) × (place ≤ count)
+    unfolding Rises
+    place_within h =
+        let t = within in
+        let is_place : place ≡ (moved p n r.next r.form m).0 = ap (λ (t : ℕ × ℕ). t.0) moves in
+        ⊎_elim (λ e. omega (arith, e, t))
+        (λ e. let l : 0 < r.next = omega (arith, e) in omega (arith, e, t, rises count n r.next links.0 l))
+        (place_cases p n r.next r.form m)
 
-  above_within : 0 < above → (n < above) × (above ≤ count)
-  unfolding Rises
-  above_within h = omega (arith, rises size n above (above_fits p n r.next size r.form m links.1 links.2) h)
+    -- room for one more
+    pub room : 0 < above → length st < 512
+    room h = omega (arith, above_within h, within, few_records q, ap length on)
 
-  place_within : 0 < place → (length rest < place) × (place ≤ count)
-  unfolding Rises
-  place_within h =
-      let t = within in
-      ⊎_elim (λ e. omega (arith, e, t))
-      (λ e. let l : 0 < r.next = omega (arith, e) in omega (arith, e, t, rises size n r.next links.0 l))
-      (place_cases p n r.next r.form m)
-
-  -- room for one more
-  pub room : 0 < above → length st < 512
-  room h = omega (arith, above_within h, within, few_records q, ap length on)
-
-  pub still_climbs : piled count (stripped (above ∷ (place ∷ rest))) ≡ true
-  unfolding Rises
-  still_climbs =
-      let t = within in
-      piled_stripped count (above ∷ (place ∷ rest))
-      (and_from _ _ (test_rises count (suc (length rest)) above (λ h. omega (arith, above_within h, t)))
-      (and_from _ _ (test_rises count (length rest) place place_within) parts.1))
+    pub still_climbs : piled count (stripped (above ∷ (place ∷ rest))) ≡ true
+    unfolding Rises
+    still_climbs =
+        let t = within in
+        piled_stripped count (above ∷ (place ∷ rest))
+        (and_from _ _ (test_rises count (suc (length rest)) above (λ h. omega (arith, above_within h, t)))
+        (and_from _ _ (test_rises count (length rest) place place_within) parts.1))
 
 -- what was stripped has no zero on top
 pub still_clean : (st s : List ℕ) → st ≡ stripped s → stripped st ≡ st

@@ -9,6 +9,7 @@ use Rattle.model.specs.Rules.{IsNumber, IsArray}
 use Rattle.model.specs.Machine.{Memory, inside, held, put, fetched, stored}
 use Rattle.model.specs.Session.{has_place}
 use Rattle.model.proofs.Memory.{inside_number}
+use Rattle.session.specs.Memories.{HasNumber, HasArray}
 
 -- an array at index i, whose cell is k
 module _ (p : Program) (m : Memory) (v i k : ℕ) (array : IsArray p v)
@@ -66,25 +67,35 @@ module _ (p : Program) (v i : ℕ) where
   has_none h = let l = le-ltb v (length p.variables) h in rw l
 
 -- a place that there is
-module _ (p : Program) (m : Memory) (v i : ℕ) (has : has_place p v i ≡ true) where
-  pub has_variable : IsVariable p v
+module _ (p : Program) (v i : ℕ) (has : has_place p v i ≡ true) where
+  parts : (ltb v (length p.variables) ≡ true) × (inside p v i ≡ true)
   unfolding has_place
-  has_variable = ltb-true v (length p.variables) (and_parts (ltb v (length p.variables)) (inside p v i) has).0
+  parts = and_parts _ _ has
 
-  has_inside : inside p v i ≡ true
-  unfolding has_place
-  has_inside = (and_parts (ltb v (length p.variables)) (inside p v i) has).1
+  there : IsVariable p v
+  there = ltb-true _ _ parts.0
 
-  pub look_number : IsNumber p v → held p m v 0 ≡ held p m v i
-  look_number k = ap (held p m v) (sym (inside_number p v i k has_inside))
+  module _ (t : Variable) (is : t ≡ variable_at p.variables v) where
+    kind_is : t.kind ≡ kind_of p.variables v
+    kind_is = ap (λ (x : Variable). x.kind) is
 
-  pub enter_number : (value : ℕ) → IsNumber p v → put p m v 0 value ≡ put p m v i value
-  enter_number value k = ap (λ (j : ℕ). put p m v j value) (sym (inside_number p v i k has_inside))
+    pub number_there : t.kind ≡ Number → HasNumber p v
+    number_there k = (there, sym kind_is ∙ k)
 
-  pub look_array : fetched p m v i ≡ held p m v i
-  unfolding fetched
-  look_array = cond-true _ _ _ has_inside
+    pub array_there : (n : ℕ) → t.kind ≡ Array n → HasArray p v
+    array_there n k = (there, (n, sym kind_is ∙ k))
 
-  pub enter_array : (value : ℕ) → stored p m v i value ≡ put p m v i value
-  unfolding stored
-  enter_array value = cond-true _ _ _ has_inside
+  module _ (m : Memory) where
+    pub look_number : IsNumber p v → held p m v 0 ≡ held p m v i
+    look_number k = ap (held p m v) (sym (inside_number p v i k parts.1))
+
+    pub enter_number : (value : ℕ) → IsNumber p v → put p m v 0 value ≡ put p m v i value
+    enter_number value k = ap (λ (j : ℕ). put p m v j value) (sym (inside_number p v i k parts.1))
+
+    pub look_array : fetched p m v i ≡ held p m v i
+    unfolding fetched
+    look_array = cond-true _ _ _ parts.1
+
+    pub enter_array : (value : ℕ) → stored p m v i value ≡ put p m v i value
+    unfolding stored
+    enter_array value = cond-true _ _ _ parts.1

@@ -1,9 +1,9 @@
 // Open, enter, start, run and look.
-ghost use Rattle.std.specs.Prelude.{◌≡◌, length};
+ghost use Rattle.std.specs.Prelude.{◌≡◌, ℕ, true, length, OnOk};
 ghost use Rattle.refusal.specs.Answers.{answer};
 ghost use Rattle.tape.specs.Log.{overwritten};
 ghost use Rattle.checker.specs.Contents.{contents};
-ghost use Rattle.model.specs.Session.{opened, enter, start, run, look, looked};
+ghost use Rattle.model.specs.Session.{opened, enter, start, run, look, looked, has_place};
 ghost use Rattle.session.specs.Memories.{tables_of, order_of};
 ghost use Rattle.session.specs.Reports.{reported};
 ghost use Rattle.session.specs.Pieces.{InPieces};
@@ -33,9 +33,10 @@ impl<O: LabelOrder, B: Bank> Session<O, B> {
         }
     }
 
-    // May the party see the place?
+    // May the party see the place? If so, there is such a place.
     fn check_access(&self, party: u8, variable: u8, index: u32) -> Result<(), SessionFault>
-        ensures { result ≡ answer (access_fault (O.meaning (order_of self.now.memory)) (tables_of self.now.memory) party variable index) tt }
+        ensures answers { result ≡ answer (access_fault (O.meaning (order_of self.now.memory)) (tables_of self.now.memory) party variable index) tt }
+        ensures place { OnOk result (has_place (tables_of self.now.memory) variable index ≡ true) }
     {
         let order = self.memory.program().order();
         if party >= order.parties() {
@@ -67,7 +68,7 @@ impl<O: LabelOrder, B: Bank> Session<O, B> {
     // May it run, with room for so many entries?
     #[tactic(auto, unfolding(model::specs::Session::fault))]
     fn check_run(&self, room: usize) -> Result<(), SessionFault>
-        ensures { result ≡ answer (refusal_of O.meaning B.cells (run 0 room) self.now) tt }
+        ensures { (steps : ℕ) → result ≡ answer (refusal_of O.meaning B.cells (run steps room) self.now) tt }
     {
         if !self.started {
             return Err(SessionFault::NotStarted);

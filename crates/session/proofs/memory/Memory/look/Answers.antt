@@ -1,26 +1,15 @@
-use Rattle.std.proofs.Common.{sym, ap, ◌∙◌}
-use Rattle.sheet.specs.declared.tables.Variable.{Variable}
-use Rattle.session.specs.Memories.{tables_of, memory_of}
-use Rattle.session.proofs.Placing.{has_variable, look_number, look_array}
+use Rattle.std.proofs.Common.{◌∙◌}
+use Rattle.session.proofs.Placing.{number_there, array_there, look_number, look_array}
 use Rattle.session.proofs.memory.Memory.look.Goals as goal
 
 pub number-requires : goal.number-requires
-number-requires g c =
-    let me = c.args.self.now in
-    (has_variable (tables_of me) (memory_of g.B.Bank.cells me) c.args.v c.args.i c.requires, ap (λ (t : Variable). t.kind) (sym c.variable.ensures) ∙ c.in-Number.is)
+number-requires g c = number_there _ _ _ c.requires _ c.variable.ensures c.in-Number.is
 
 pub fetch-requires : goal.fetch-requires
-fetch-requires g c =
-    let me = c.args.self.now in
-    (has_variable (tables_of me) (memory_of g.B.Bank.cells me) c.args.v c.args.i c.requires, (c.in-Array.field-0, ap (λ (t : Variable). t.kind) (sym c.variable.ensures) ∙ c.in-Array.is))
+fetch-requires g c = array_there _ _ _ c.requires _ c.variable.ensures _ c.in-Array.is
 
 pub returns-in-Number-clause-value : goal.returns-in-Number-clause-value
-returns-in-Number-clause-value g c =
-    let me = c.args.self.now in
-    let k = ap (λ (t : Variable). t.kind) (sym c.variable.ensures) ∙ c.in-Number.is in
-    c.number.ensures ∙ look_number (tables_of me) (memory_of g.B.Bank.cells me) c.args.v c.args.i c.requires k
+returns-in-Number-clause-value g c = c.number.ensures ∙ look_number _ _ _ c.requires _ (number_there _ _ _ c.requires _ c.variable.ensures c.in-Number.is).1
 
 pub returns-in-Array-clause-value : goal.returns-in-Array-clause-value
-returns-in-Array-clause-value g c =
-    let me = c.args.self.now in
-    c.fetch.ensures.value ∙ look_array (tables_of me) (memory_of g.B.Bank.cells me) c.args.v c.args.i c.requires
+returns-in-Array-clause-value g c = c.fetch.ensures.value ∙ look_array _ _ _ c.requires _
