@@ -2,6 +2,7 @@
 use Rattle.std.proofs.Common.{◌≡◌, ℕ, ◌+◌, ◌<◌, ◌≤◌, true, false, eqb, ltb, List, length, get_or, set, sym, ap, ◌∙◌, ⊎_elim}
 use Rattle.std.proofs.lemmas.List.{get_or_past, set_past}
 use Rattle.std.proofs.lemmas.Bool.{cases_lt, lt-ltb, le-ltb, ltb-true, and_parts, cond-true, cond-false}
+use Rattle.sheet.specs.declared.tables.Kind.{Kind}
 use Rattle.sheet.specs.declared.tables.Kind.TheVariants.{Number, Array}
 use Rattle.sheet.specs.declared.tables.Variable.{Variable}
 use Rattle.model.specs.Program.{Program, IsVariable, kind_of, length_of, base, variable_at}
@@ -9,7 +10,6 @@ use Rattle.model.specs.Rules.{IsNumber, IsArray}
 use Rattle.model.specs.Machine.{Memory, inside, held, put, fetched, stored}
 use Rattle.model.specs.Session.{has_place}
 use Rattle.model.proofs.Memory.{inside_number}
-use Rattle.session.specs.Memories.{HasNumber, HasArray}
 
 -- an array at index i, whose cell is k
 module _ (p : Program) (m : Memory) (v i k : ℕ) (array : IsArray p v)
@@ -46,25 +46,29 @@ module _ (p : Program) (m : Memory) (v i k : ℕ) (array : IsArray p v)
       (λ more. ap (λ (row : List ℕ). record { numbers = m.numbers; cells = row }) (set_past m.cells k value (beyond more)) ∙ sym (cond-false _ _ _ (out_test more)))
       (cases_lt i (length_of p.variables v))
 
--- is there such a place
-module _ (p : Program) (v i : ℕ) where
-  pub has_number : (t : Variable) → v < length p.variables → t ≡ variable_at p.variables v → t.kind ≡ Number → eqb i 0 ≡ has_place p v i
-  unfolding has_place inside
-  has_number t h e k =
-      let q : kind_of p.variables v ≡ Number = ap (λ (x : Variable). x.kind) (sym e) ∙ k in
-      let l = lt-ltb v (length p.variables) h in
-      rw (l, q)
+-- the kind of a variable, and whether there is such a place
+module _ (p : Program) (v : ℕ) (t : Variable) (here : t ≡ variable_at p.variables v) where
+  kind_is : (k : Kind) → t.kind ≡ k → kind_of p.variables v ≡ k
+  kind_is k e = ap (λ (x : Variable). x.kind) (sym here) ∙ e
 
-  pub has_array : (t : Variable) (n : ℕ) → v < length p.variables → t ≡ variable_at p.variables v → t.kind ≡ Array n → ltb i n ≡ has_place p v i
-  unfolding has_place inside
-  has_array t n h e k =
-      let q : kind_of p.variables v ≡ Array n = ap (λ (x : Variable). x.kind) (sym e) ∙ k in
-      let l = lt-ltb v (length p.variables) h in
-      rw (l, q)
+  pub is_number : t.kind ≡ Number → IsNumber p v
+  is_number e = kind_is Number e
 
-  pub has_none : length p.variables ≤ v → false ≡ has_place p v i
-  unfolding has_place
-  has_none h = let l = le-ltb v (length p.variables) h in rw l
+  pub is_array : (n : ℕ) → t.kind ≡ Array n → IsArray p v
+  is_array n e = (n, kind_is (Array n) e)
+
+  module _ (i : ℕ) (h : v < length p.variables) where
+    pub has_number : t.kind ≡ Number → eqb i 0 ≡ has_place p v i
+    unfolding has_place inside
+    has_number e = rw (lt-ltb v (length p.variables) h, kind_is Number e)
+
+    pub has_array : (n : ℕ) → t.kind ≡ Array n → ltb i n ≡ has_place p v i
+    unfolding has_place inside
+    has_array n e = rw (lt-ltb v (length p.variables) h, kind_is (Array n) e)
+
+pub has_none : (p : Program) (v i : ℕ) → length p.variables ≤ v → false ≡ has_place p v i
+unfolding has_place
+has_none p v i h = rw (le-ltb v (length p.variables) h)
 
 -- a place that there is
 module _ (p : Program) (v i : ℕ) (has : has_place p v i ≡ true) where
@@ -72,18 +76,8 @@ module _ (p : Program) (v i : ℕ) (has : has_place p v i ≡ true) where
   unfolding has_place
   parts = and_parts _ _ has
 
-  there : IsVariable p v
+  pub there : IsVariable p v
   there = ltb-true _ _ parts.0
-
-  module _ (t : Variable) (is : t ≡ variable_at p.variables v) where
-    kind_is : t.kind ≡ kind_of p.variables v
-    kind_is = ap (λ (x : Variable). x.kind) is
-
-    pub number_there : t.kind ≡ Number → HasNumber p v
-    number_there k = (there, sym kind_is ∙ k)
-
-    pub array_there : (n : ℕ) → t.kind ≡ Array n → HasArray p v
-    array_there n k = (there, (n, sym kind_is ∙ k))
 
   module _ (m : Memory) where
     pub look_number : IsNumber p v → held p m v 0 ≡ held p m v i

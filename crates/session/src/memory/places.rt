@@ -33,6 +33,7 @@ impl<O: LabelOrder, B: Bank> Memory<O, B> {
     }
 
     // Is there such a variable, and is the index inside it?
+    #[tactic(auto, using(crate::proofs::Placing::has_number, crate::proofs::Placing::has_array, crate::proofs::Placing::has_none))]
     pub(crate) fn has_place(&self, v: u8, i: u32) -> bool
         ensures { result ≡ has_place (tables_of self.now) v i }
     {
@@ -88,6 +89,7 @@ impl<O: LabelOrder, B: Bank> Memory<O, B> {
     }
 
     // What variable v holds at index i; there are these two kinds and no others, so a match decides.
+    #[tactic(auto, using(crate::proofs::Placing::there, crate::proofs::Placing::is_number, crate::proofs::Placing::is_array, crate::proofs::Placing::look_number, crate::proofs::Placing::look_array))]
     pub(crate) fn look(&mut self, v: u8, i: u32) -> u32
         requires { has_place (tables_of self.old) v i ≡ true }
         ensures value { result ≡ held (tables_of self.old) (memory_of B.cells self.old) v i }
@@ -100,6 +102,7 @@ impl<O: LabelOrder, B: Bank> Memory<O, B> {
     }
 
     // Sets variable v at index i.
+    #[tactic(auto, using(crate::proofs::Placing::there, crate::proofs::Placing::is_number, crate::proofs::Placing::is_array, crate::proofs::Placing::enter_number, crate::proofs::Placing::enter_array))]
     pub(crate) fn enter(&mut self, v: u8, i: u32, value: u32)
         requires { has_place (tables_of self.old) v i ≡ true }
         ensures { Becomes B.cells (put (tables_of self.old) (memory_of B.cells self.old) v i value) self.old self.new }

@@ -84,6 +84,7 @@ impl<O: LabelOrder, B: Bank> Session<O, B> {
 
     // Sets a variable, before the start, for a party to which its label is open. Party, variable and index are what a host
     // passes, each refused by a number of its own.
+    #[tactic(auto, unfolding(model::specs::Session::perform, model::specs::Session::fault, model::specs::Session::too_small))]
     pub fn enter(
         &mut self,
         party: u8,
@@ -102,6 +103,7 @@ impl<O: LabelOrder, B: Bank> Session<O, B> {
     }
 
     // Starts the session: nothing is entered from then on, and it may run.
+    #[tactic(auto, unfolding(model::specs::Session::perform))]
     pub fn start(&mut self) -> Result<(), SessionFault>
         ensures answers { result ≡ answer (refusal_of O.meaning B.cells start self.old) tt }
         ensures state { state_of B.cells self.new ≡ (done O.meaning B.cells start self.old).state }
@@ -113,6 +115,7 @@ impl<O: LabelOrder, B: Bank> Session<O, B> {
     }
 
     // What a variable holds, for a party to which its label is open.
+    #[tactic(auto, unfolding(model::specs::Session::perform, model::specs::Session::looked, model::specs::Session::fault, model::specs::Session::too_small))]
     pub fn look(&mut self, party: u8, variable: u8, index: u32) -> Result<u32, SessionFault>
         ensures answers { result ≡ looked (O.meaning (order_of self.old.memory)) (tables_of self.old.memory) (state_of B.cells self.old) party variable index }
         ensures state { state_of B.cells self.new ≡ (done O.meaning B.cells (look party variable index) self.old).state }
@@ -127,6 +130,7 @@ impl<O: LabelOrder, B: Bank> Session<O, B> {
 
     // Runs for at most so many steps, and writes what they write from the beginning of the tape on; the rest of the tape
     // stays. Before each step: the program has ended, else the steps are taken, else the tape is full.
+    #[tactic(auto, using(crate::proofs::Splitting::in_pieces), unfolding(model::specs::Session::perform))]
     pub fn run(&mut self, steps: u64, tape: &mut [Entry]) -> Result<RunReport, SessionFault>
         ensures answers { result ≡ answer (refusal_of O.meaning B.cells (run steps (length tape.old)) self.old) (reported (ran_of O.meaning B.cells steps (length tape.old) self.old)) }
         ensures state { state_of B.cells self.new ≡ (done O.meaning B.cells (run steps (length tape.old)) self.old).state }
