@@ -13,6 +13,7 @@ use sheet::Kind;
 
 // Copies n cells to another place, which the source does not run into. A bank is reached by number alone, so the loop
 // counts.
+#[tactic(auto, using(crate::proofs::Copying::copied_more))]
 fn copy_cells<B: Bank>(bank: &mut B, source: usize, target: usize, n: usize)
     requires fits { (source + n < 2 ^ 64) × (target + n < 2 ^ 64) }
     requires apart { target < source + n → target ≤ source }
@@ -26,6 +27,7 @@ fn copy_cells<B: Bank>(bank: &mut B, source: usize, target: usize, n: usize)
 
 impl<O: LabelOrder, B: Bank> Memory<O, B> {
     // Has the bank fewer cells than the arrays need?
+    #[tactic(auto, using(crate::proofs::Laying::start_last))]
     pub(crate) fn too_small(&self) -> bool
         ensures { result ≡ nat_lt (length (memory_of B.cells self.now).cells) (cells_needed (tables_of self.now)) }
     {
@@ -45,6 +47,7 @@ impl<O: LabelOrder, B: Bank> Memory<O, B> {
     }
 
     // The cell of array v at index i; outside the array, one beyond the row.
+    #[tactic(auto, using(crate::proofs::Laying::start_at, crate::proofs::Reading::few_variables))]
     fn cell(&self, v: u8, i: u32) -> usize
         requires { IsVariable (tables_of self.now) v }
         ensures inside { i < length_of (tables_of self.now).variables v → result ≡ base (tables_of self.now) v + i }
@@ -77,6 +80,7 @@ impl<O: LabelOrder, B: Bank> Memory<O, B> {
     }
 
     // Copies array a, of the same length, to array x: one put for each cell, in rising order.
+    #[tactic(auto, using(crate::proofs::Reading::few_variables, crate::proofs::Copying::apart))]
     pub(crate) fn copy(&mut self, x: u8, a: u8)
         requires arrays { (HasArray (tables_of self.old) x) × (HasArray (tables_of self.old) a) }
         requires lengths { length_of (tables_of self.old).variables x ≡ length_of (tables_of self.old).variables a }

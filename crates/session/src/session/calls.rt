@@ -22,6 +22,7 @@ use tape::Entry;
 
 impl<O: LabelOrder, B: Bank> Session<O, B> {
     // A session of the program over the bank: every number and every cell that the arrays use is 0, and record 1 is next.
+    #[tactic(auto, using(crate::proofs::Moving::first_climbs, crate::proofs::Moving::first_clean), unfolding(model::specs::Session::opened))]
     pub fn open(program: Program<O>, bank: B) -> Session<O, B>
         ensures state { state_of B.cells result ≡ opened (contents program).tables (B.cells bank) }
         ensures program { result.memory.program ≡ program }
