@@ -41,13 +41,8 @@ module _ (L : Labels) (p : Program) where
         | inl e ↦ run_ended L p (suc m) a c e ∙ sym (run_ended L p (suc m) b c e)
         | inr e ↦
             let w = few c in
-            let one : suc m - 1 ≡ m = omega arith in
             let deep = room_free m (a - length (written L p c)) (b - length (written L p c)) (step p c) (omega arith) (omega arith) in
-            run_step L p (suc m) a c e (omega arith) (omega arith)
-            ∙ ap (λ (k : ℕ). then_ran (written L p c) (steps L p k (a - length (written L p c)) (step p c))) one
-            ∙ ap (then_ran (written L p c)) deep
-            ∙ ap (λ (k : ℕ). then_ran (written L p c) (steps L p k (b - length (written L p c)) (step p c))) (sym one)
-            ∙ sym (run_step L p (suc m) b c e (omega arith) (omega arith))
+            run_step L p m a c e (omega arith) ∙ ap (then_ran (written L p c)) deep ∙ sym (run_step L p m b c e (omega arith))
       ]
 
   pub in_pieces : (c : Config) (all room : ℕ) → InPieces L p c all room
@@ -61,11 +56,10 @@ module _ (L : Labels) (p : Program) where
             ∙ joined_none (steps L p m second c) ∙ run_ended L p m second c e ∙ sym (run_ended L p all room c e)
         | inr e ↦
             let w = few c in
-            let one : suc n - 1 ≡ n = omega arith in
+            let last : suc (all - 1) ≡ all = omega arith in
             let deep = in_pieces (step p c) (all - 1) (room - length (written L p c)) n m (first - length (written L p c)) second (omega arith) (omega arith) (omega arith) s in
-            ap (λ (x : Ran). one_then x (steps L p m second x.config))
-            (run_step L p (suc n) first c e (omega arith) (omega arith) ∙ ap (λ (k : ℕ). then_ran (written L p c) (steps L p k (first - length (written L p c)) (step p c))) one)
+            ap (λ (x : Ran). one_then x (steps L p m second x.config)) (run_step L p n first c e (omega arith))
             ∙ after_step (written L p c) (steps L p n (first - length (written L p c)) (step p c)) (steps L p m second (steps L p n (first - length (written L p c)) (step p c)).config)
             ∙ ap (then_ran (written L p c)) deep
-            ∙ sym (run_step L p all room c e (omega arith) (omega arith))
+            ∙ sym (run_step L p (all - 1) room c e (omega arith)) ∙ ap (λ (k : ℕ). steps L p k room c) last
       ]
