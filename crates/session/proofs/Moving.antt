@@ -17,20 +17,16 @@ use Rattle.session.specs.Piles.{piled, moved}
 use Rattle.session.proofs.Sound.{few_records, some_record, record_runs, record_links}
 use Rattle.session.specs.Acting.{Runs}
 
--- a zero on top is taken off
-pub no_more : (x : ℕ) (rest : List ℕ) → stripped (0 ∷ (x ∷ rest)) ≡ stripped (x ∷ rest)
-unfolding stripped
-no_more x rest = refl
-
 pub onward_moved : (p : Program) (r next : ℕ) (f : Form) (m : Memory) (rest : List ℕ) →
     stripped ((moved p r next f m).1 ∷ ((moved p r next f m).0 ∷ rest)) ≡ stripped (onward p r next f m rest)
+unfolding stripped
 onward_moved p r next (If a first second) m rest = refl
 onward_moved p r next (While a body) m rest = go (holds (held p m a 0))
   where
     go : (t : Bool) → stripped ((cond {A = ℕ × ℕ} t (r, body) (next, 0)).1 ∷ ((cond {A = ℕ × ℕ} t (r, body) (next, 0)).0 ∷ rest)) ≡ stripped (cond t (body ∷ (r ∷ rest)) (next ∷ rest))
     go true = refl
-    go false = no_more next rest
-onward_moved p r next f m rest = no_more next rest
+    go false = refl
+onward_moved p r next f m rest = refl
 
 -- what is put above is a branch, or nothing
 above_fits : (p : Program) (r next count : ℕ) (f : Form) (m : Memory) → link_fits count r (branches f).0 ≡ true → link_fits count r (branches f).1 ≡ true → link_fits count r (moved p r next f m).1 ≡ true
