@@ -100,9 +100,9 @@ fit (most ∷ limits) (word ∷ words) ns e (suc k) h =
     omega (arith, fit limits words p.1 (sym p.3) k (omega arith))
 
 -- a split at spaces yields the words
-pub split_words : {s t : _} (text : List ℕ) → s ≡ t → split_text t ≡ text → split_has_more t ≡ true → split_pattern t ≡ 32 → YieldsList (split_steps FindsChar (λ a b. b ≡ a)) (λ x. x.now) s (words_of text)
+pub split_words : {s t : _} (text : List ℕ) → s ≡ t → split_text {P = ℕ} t ≡ text → split_has_more t ≡ true → split_pattern t ≡ 32 → YieldsList (split_steps FindsChar (λ a b. b ≡ a)) (λ x. x.now) s (words_of text)
 unfolding words_of
-split_words text same here more space = YieldsList-at same (YieldsList-from_str_split 32 text (lit< tt) here more space)
+split_words text same all unread space = YieldsList-at same (YieldsList-from_str_split 32 text (lit< tt) all unread space)
 
 -- the words of a bank, up to a place
 module _ {all : Option (List ℕ)} (done : List ℕ) (words : List (List ℕ)) (i : ℕ) (inv : all ≡ front done (each (drop i words))) where

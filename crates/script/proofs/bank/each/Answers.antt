@@ -23,4 +23,4 @@ pub returns : goal.returns
 returns c =
     let split = c.split-word-items.ensures in
     let t = YieldsList-end (split_words c.args.text.now c.into_iter-word-iterator.ensures.into_iter_gives split.text split.has_more split.pattern) c.loop-word.yielded _ c.loop-word.yielded_by _ _ c.in-None.is c.next.ensures.steps in
-    each_all _ _ _ c.loop-word.invariant (omega (arith, t.1))
+    each_all _ (words_of c.args.text.now) (length c.loop-word.yielded) c.loop-word.invariant (omega (arith, t.1))
