@@ -20,7 +20,8 @@ impl FlatBank {
     pub fn into_words(self) -> Vec<u32>
         ensures { result.items ≡ self.words.items }
     {
-        self.words
+        let FlatBank { words } = self;
+        words
     }
 }
 

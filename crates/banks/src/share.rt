@@ -35,7 +35,8 @@ impl ShareBank {
     pub fn into_words(self) -> Vec<u32>
         ensures { result.items ≡ self.words.items }
     {
-        self.words
+        let ShareBank { words, .. } = self;
+        words
     }
 
     // How many pairs of words there are.

@@ -1,5 +1,5 @@
 -- Logs that were picked. Assumes nothing.
-use Rattle.std.proofs.Common.{◌≡◌, ℕ, ◌<◌, Bool, true, false, cond, ltb, leb, List, length, take, drop, is_ok, Some, None, Ok, Err, Option, Result, sym, refl, ap, ◌∙◌, arith}
+use Rattle.std.proofs.Common.{◌≡◌, ℕ, ◌<◌, Bool, true, false, cond, ltb, leb, List, length, take, drop, is_ok, Some, None, Ok, Err, Option, Result, sym, refl, ap, ◌∙◌}
 use Rattle.std.proofs.lemmas.List.{take_at}
 use Rattle.std.proofs.lemmas.Bool.{ltb-true}
 use Rattle.tape.specs.declared.entry.Entry.{Entry}
@@ -25,9 +25,9 @@ module _ (L : Labels) (q : ℕ) (tape : List Entry) where
       go : (a : Bool) (o : Option ℕ) (b : Bool) →
           Ok n ≡ cond a (unless_unknown o (cond b (Ok (length (log_of L q tape))) (Err (Short (length (log_of L q tape)))))) (Err (Party q)) → (n ≡ length (log_of L q tape)) × (a ≡ true)
       go true None true h = (cc, refl)
-      go true None false h = let z : ◌≡◌ {A = ℕ} 0 1 = cc in absurd (omega arith)
-      go true (Some i) b h = let z : ◌≡◌ {A = ℕ} 0 1 = cc in absurd (omega arith)
-      go false o b h = let z : ◌≡◌ {A = ℕ} 0 1 = cc in absurd (omega arith)
+      go true None false h = absurd cc
+      go true (Some i) b h = absurd cc
+      go false o b h = absurd cc
 
   pub log_kept : (n room : ℕ) (out new : List Entry) → length out ≡ room → room ≡ length tape → Ok n ≡ pick_answer L q tape (length out) → new ≡ pick_buffer L q tape out →
       Ok (take n new) ≡ picked_log L q tape
@@ -47,8 +47,8 @@ module _ (L : Labels) (p : Program) (q : ℕ) where
     where
       go : (o : Option Refusal) (a : Result ℕ LogFault) → pick_answer L q (after L p cs (opened p cells)).tape (length (after L p cs (opened p cells)).tape) ≡ a →
           Ok es ≡ by_accept o (by_pick a (log_of L q (after L p cs (opened p cells)).tape)) → (es ≡ log_of L q (after L p cs (opened p cells)).tape) × (q < L.parties)
-      go (Some f) a is h = let z : ◌≡◌ {A = ℕ} 0 1 = cc in absurd (omega arith)
-      go None (Err f) is h = let z : ◌≡◌ {A = ℕ} 0 1 = cc in absurd (omega arith)
+      go (Some f) a is h = absurd cc
+      go None (Err f) is h = absurd cc
       go None (Ok n) is h = (cc, (picked_whole L q (after L p cs (opened p cells)).tape n _ (sym is)).1)
 
   pub compared : Secrecy L p → (cs ds : List Call) (cells cells' : List ℕ) (a b : List Entry) → Ok a ≡ logged L p q cs cells → Ok b ≡ logged L p q ds cells' →

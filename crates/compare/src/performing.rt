@@ -42,6 +42,7 @@ fn run_entries<O: LabelOrder, B: Bank>(
 }
 
 // Performs one call: what it writes is joined to the tape.
+#[tactic(auto, using(crate::proofs::Joining::silent))]
 fn perform<O: LabelOrder, B: Bank>(
     session: &mut Session<O, B>,
     call: Call,

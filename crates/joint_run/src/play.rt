@@ -1,5 +1,5 @@
 // Playing the task from start to finish, and what there is to tell of it.
-use crate::task::{DRIVE_COUNT, DRIVES, FRAME_COUNT, MARGINS, RECORDS, SLACKS, VARIABLES};
+use crate::task::{DRIVE_COUNT, DRIVES, FRAME_COUNT, MARGINS, RECORDS, SLACKS, variables};
 use anyhow::anyhow;
 use banks::{FlatBank, ShareBank};
 use checker::{Program, accept};
@@ -30,59 +30,27 @@ const PIECES: usize = 100;
 // How much each drive stands.
 const MARGIN_TABLE: [u32; DRIVE_COUNT] = [30, 45, 60, 25];
 
-// A frame of a recording: the drive, and the slack that was measured.
+// A recording, frame by frame: the drive, and the slack that was measured.
 #[derive(Clone, Copy)]
-pub struct Frame {
-    drive: u32,
-    slack: u32,
+struct Recording {
+    drives: [u32; FRAME_COUNT],
+    slacks: [u32; FRAME_COUNT],
 }
 
-type Recording = [Frame; FRAME_COUNT];
+const FIRST: Recording = Recording {
+    drives: [1, 3, 0],
+    slacks: [40, 20, 35],
+};
 
-const FIRST: Recording = [
-    Frame {
-        drive: 1,
-        slack: 40,
-    },
-    Frame {
-        drive: 3,
-        slack: 20,
-    },
-    Frame {
-        drive: 0,
-        slack: 35,
-    },
-];
+const OTHER: Recording = Recording {
+    drives: [1, 3, 0],
+    slacks: [50, 20, 35],
+};
 
-const OTHER: Recording = [
-    Frame {
-        drive: 1,
-        slack: 50,
-    },
-    Frame {
-        drive: 3,
-        slack: 20,
-    },
-    Frame {
-        drive: 0,
-        slack: 35,
-    },
-];
-
-const THIRD: Recording = [
-    Frame {
-        drive: 2,
-        slack: 59,
-    },
-    Frame {
-        drive: 0,
-        slack: 30,
-    },
-    Frame {
-        drive: 1,
-        slack: 10,
-    },
-];
+const THIRD: Recording = Recording {
+    drives: [2, 0, 1],
+    slacks: [59, 30, 10],
+};
 
 #[derive(Drop)]
 pub struct Told {
@@ -96,34 +64,37 @@ pub struct Told {
     pub third: Logs,
 }
 
-// The maker's side.
-fn margins(heap: Global) -> anyhow::Result<Vec<Call>> {
-    let mut all = Vec::new(heap);
-    for (index, margin) in (0..).zip(&MARGIN_TABLE) {
-        all.push(Call::Enter {
-            party: MAKER,
-            variable: MARGINS,
+// Adds the calls that enter these values in an array.
+fn enter_array(
+    calls: &mut Vec<Call>,
+    party: u8,
+    variable: u8,
+    values: &[u32],
+) -> anyhow::Result<()> {
+    for (index, value) in (0..).zip(values) {
+        calls.push(Call::Enter {
+            party,
+            variable,
             index,
-            value: *margin,
+            value: *value,
         })?;
     }
-    Ok(all)
+    Ok(())
+}
+
+// The maker's side.
+fn margins(heap: Global) -> anyhow::Result<Vec<Call>> {
+    let mut calls = Vec::new(heap);
+    enter_array(&mut calls, MAKER, MARGINS, &MARGIN_TABLE)?;
+    Ok(calls)
 }
 
 // The plant's side.
-fn frames(heap: Global, recording: &[Frame]) -> anyhow::Result<Vec<Call>> {
-    let mut all = Vec::new(heap);
-    for (index, frame) in (0..).zip(recording) {
-        for (variable, value) in [(DRIVES, frame.drive), (SLACKS, frame.slack)] {
-            all.push(Call::Enter {
-                party: PLANT,
-                variable,
-                index,
-                value,
-            })?;
-        }
-    }
-    Ok(all)
+fn frames(heap: Global, recording: &Recording) -> anyhow::Result<Vec<Call>> {
+    let mut calls = Vec::new(heap);
+    enter_array(&mut calls, PLANT, DRIVES, &recording.drives)?;
+    enter_array(&mut calls, PLANT, SLACKS, &recording.slacks)?;
+    Ok(calls)
 }
 
 // Enters what these calls enter.
@@ -189,7 +160,7 @@ fn log_of(heap: Global, party: u8, joined: &[Entry]) -> anyhow::Result<Vec<Entry
 }
 
 // The calls of a whole session with a recording.
-fn calls(heap: Global, recording: &[Frame]) -> anyhow::Result<Vec<Call>> {
+fn calls(heap: Global, recording: &Recording) -> anyhow::Result<Vec<Call>> {
     let mut calls = margins(heap)?;
     calls.extend_from_slice(&frames(heap, recording)?)?;
     calls.push(Call::Start)?;
@@ -201,7 +172,7 @@ fn calls(heap: Global, recording: &[Frame]) -> anyhow::Result<Vec<Call>> {
 }
 
 // The maker's logs of two sessions: with the first recording over a share bank, and with another over a flat one.
-fn compare_with(heap: Global, sheet: &ReadSheet, recording: &[Frame]) -> anyhow::Result<Logs> {
+fn compare_with(heap: Global, sheet: &ReadSheet, recording: &Recording) -> anyhow::Result<Logs> {
     let shares = ShareBank::new(vec![in heap; 0u32; SHARES]?, 1);
     let cells = FlatBank::new(vec![in heap; 7u32; CELLS]?);
     let ours = calls(heap, &FIRST)?;
@@ -246,7 +217,7 @@ fn play_sheet(heap: Global, bytes: &[u8]) -> anyhow::Result<Told> {
 
 pub fn play(heap: Global) -> anyhow::Result<Told> {
     let mut buffer = [0; 512];
-    let length = lay_out(&VARIABLES, &RECORDS, &mut buffer).map_err(|_| anyhow!(
+    let length = lay_out(&variables(), &RECORDS, &mut buffer).map_err(|_| anyhow!(
         "the tables have no sheet"
     ))?;
     if length > 512 {

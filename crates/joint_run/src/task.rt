@@ -56,88 +56,45 @@ pub const DRIVE_COUNT: usize = 4;
 
 pub const FRAME_COUNT: usize = 3;
 
-pub const VARIABLES: [Variable; 20] = [
+fn number(label: u8) -> Variable {
     Variable {
-        label: MAKER,
-        kind: Kind::Array(4),
-    },
-    Variable {
-        label: PLANT,
-        kind: Kind::Array(3),
-    },
-    Variable {
-        label: PLANT,
-        kind: Kind::Array(3),
-    },
-    Variable {
-        label: SECRET,
-        kind: Kind::Array(4),
-    },
-    Variable {
-        label: PUBLIC,
+        label,
         kind: Kind::Number,
-    },
+    }
+}
+
+fn array(label: u8, cells: u16) -> Variable {
     Variable {
-        label: PUBLIC,
-        kind: Kind::Number,
-    },
-    Variable {
-        label: PUBLIC,
-        kind: Kind::Number,
-    },
-    Variable {
-        label: PUBLIC,
-        kind: Kind::Number,
-    },
-    Variable {
-        label: PUBLIC,
-        kind: Kind::Number,
-    },
-    Variable {
-        label: PLANT,
-        kind: Kind::Number,
-    },
-    Variable {
-        label: PLANT,
-        kind: Kind::Number,
-    },
-    Variable {
-        label: SECRET,
-        kind: Kind::Number,
-    },
-    Variable {
-        label: SECRET,
-        kind: Kind::Number,
-    },
-    Variable {
-        label: SECRET,
-        kind: Kind::Number,
-    },
-    Variable {
-        label: SECRET,
-        kind: Kind::Number,
-    },
-    Variable {
-        label: SECRET,
-        kind: Kind::Number,
-    },
-    Variable {
-        label: SECRET,
-        kind: Kind::Number,
-    },
-    Variable {
-        label: SECRET,
-        kind: Kind::Number,
-    },
-    Variable {
-        label: PUBLIC,
-        kind: Kind::Number,
-    },
-    Variable {
-        label: PLANT,
-        kind: Kind::Number,
-    },
-];
+        label,
+        kind: Kind::Array(cells),
+    }
+}
+
+// The variables, in the order of their numbers.
+pub fn variables() -> [Variable; 20] {
+    [
+        array(MAKER, 4),
+        array(PLANT, 3),
+        array(PLANT, 3),
+        array(SECRET, 4),
+        number(PUBLIC),
+        number(PUBLIC),
+        number(PUBLIC),
+        number(PUBLIC),
+        number(PUBLIC),
+        number(PLANT),
+        number(PLANT),
+        number(SECRET),
+        number(SECRET),
+        number(SECRET),
+        number(SECRET),
+        number(SECRET),
+        number(SECRET),
+        number(SECRET),
+        number(PUBLIC),
+        number(PLANT),
+    ]
+}
 
 // The margins go through oram into a secret table. A public loop scans the frames; the margin of each is looked up by a
 // secret index, frames below their margin are counted, and the frame that is furthest below is kept. At the end the

@@ -1,9 +1,14 @@
 -- Words against limits, one by one. Assumes nothing.
-use Rattle.std.proofs.Common.{◌≡◌, ℕ, zero, suc, ◌+◌, ◌<◌, ◌≤◌, leb, List, [], ◌∷◌, ◌++◌, length, get_or, take, drop, set, Some, None, Option, sym, refl, ap, ap₂, ◌∙◌, inl, inr, append_assoc, append-nil, arith, drop-set-lt}
+use Rattle.std.proofs.Common.{◌≡◌, ℕ, zero, suc, ◌+◌, ◌<◌, ◌≤◌, true, leb, List, [], ◌∷◌, ◌++◌, length, get_or, take, drop, set, Some, None, Option, sym, refl, ap, ap₂, ◌∙◌, inl, inr, append_assoc, append-nil, arith, lit<, drop-set-lt}
 use Rattle.std.proofs.lemmas.List.{drop_more, drop_all, take_all, take_more_set}
 use Rattle.std.proofs.lemmas.Bool.{cases_Bool, leb-true, cond-true, cond-false}
+use Rattle.std.specs.Str.Iter.{split_steps, split_text, split_has_more, split_pattern}
+use Rattle.std.specs.Str.Pattern.{FindsChar}
+use Rattle.std.proofs.lemmas.Iterator.{YieldsList}
+use Rattle.std.proofs.lemmas.Iterator.Consumers.{YieldsList-at}
+use Rattle.std.proofs.lemmas.Iterator.Splits.{YieldsList-from_str_split}
 use Rattle.script.specs.Commands.{each}
-use Rattle.script.specs.Fields.{decimal, up_to, field, before, numbers}
+use Rattle.script.specs.Fields.{words_of, decimal, up_to, field, before, numbers}
 
 -- numbers in front of others, where those are there
 abbrev pub front : List ℕ → Option (List ℕ) → Option (List ℕ)
@@ -93,6 +98,11 @@ fit (most ∷ limits) (word ∷ words) ns e (suc k) h =
     let p = parts (field most word) (numbers limits words) ns e in
     let same : get_or ns (suc k) 0 ≡ get_or p.1 k 0 = ap (λ l. get_or l (suc k) 0) p.4 in
     omega (arith, fit limits words p.1 (sym p.3) k (omega arith))
+
+-- a split at spaces yields the words
+pub split_words : {s t : _} (text : List ℕ) → s ≡ t → split_text {P = ℕ} t ≡ text → split_has_more t ≡ true → split_pattern t ≡ 32 → YieldsList (split_steps FindsChar (λ a b. b ≡ a)) (λ x. x.now) s (words_of text)
+unfolding words_of
+split_words text same all unread space = YieldsList-at same (YieldsList-from_str_split 32 text (lit< tt) all unread space)
 
 -- the words of a bank, up to a place
 module _ {all : Option (List ℕ)} (done : List ℕ) (words : List (List ℕ)) (i : ℕ) (inv : all ≡ front done (each (drop i words))) where

@@ -1,5 +1,5 @@
 -- Lines by their names. Assumes nothing.
-use Rattle.std.proofs.Common.{◌≡◌, ℕ, List, [], ◌∷◌, Some, sym, refl, ap, ◌∙◌}
+use Rattle.std.proofs.Common.{◌≡◌, ℕ, List, [], ◌∷◌, Some, None, sym, refl, ap, ◌∙◌}
 use Rattle.std.specs.List.{join_with_byte}
 use Rattle.std.specs.Option.{option_map}
 use Rattle.std.proofs.lemmas.List.Splits.{join_with_byte-slice_split}
@@ -12,6 +12,11 @@ pub named : (name : List ℕ) (words : List (List ℕ)) → option_map (λ _. ca
 unfolding numbers
 named name [] = refl
 named name (word ∷ words) = refl
+
+-- and a text behind its name is too much
+pub left_over : (text : List ℕ) → numbers [] (words_of text) ≡ None
+unfolding numbers
+left_over text = ap (numbers []) (first text).2
 
 -- the words of a text, joined again, are the text
 pub sheet_text : (text : List ℕ) → sheet_of (words_of text) ≡ Some (sheet text)

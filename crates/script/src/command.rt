@@ -52,7 +52,7 @@ pub enum Command<'a> {
 }
 
 // A command of no fields.
-#[tactic(auto, unfolding(crate::specs::Fields::numbers))]
+#[tactic(auto, using(crate::proofs::Names::left_over), unfolding(crate::specs::Fields::numbers))]
 fn alone<'a>(rest: Option<&str>, command: Command<'a>) -> Option<Command<'a>>
     ensures { option_map asked result ≡ option_map (λ _. asked command.entry) (numbers [] (fields rest.entry)) }
 {

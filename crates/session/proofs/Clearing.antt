@@ -15,10 +15,10 @@ pub zeroed_more : (n : ℕ) (cells : List ℕ) → set (zeroed n cells) n 0 ≡ 
 zeroed_more n cells = rw (add-one n) (zeroed_suc n cells)
 
 -- the memory of a newly opened session
-pub opened_memory : (p : Program) (cells row zeros : List ℕ) (k : ℕ) → length p.variables ≤ 64 → k ≡ cells_needed p → zeros ≡ replicate 64 0 → row ≡ zeroed k cells →
-    ◌≡◌ {A = Memory} (record { numbers = take (length p.variables) zeros; cells = row }) (opened p cells).config.memory
+pub opened_memory : (p : Program) (cells row : List ℕ) (k : ℕ) → row ≡ zeroed k cells → k ≡ cells_needed p → length p.variables ≤ 64 →
+    ◌≡◌ {A = Memory} (record { numbers = take (length p.variables) (replicate 64 0); cells = row }) (opened p cells).config.memory
 unfolding opened
-opened_memory p cells row zeros k few e is r =
-    let a : take (length p.variables) zeros ≡ replicate (length p.variables) 0 = ap (take (length p.variables)) is ∙ take-replicate (length p.variables) 64 0 few in
-    let b : row ≡ zeroed (cells_needed p) cells = r ∙ ap (λ (n : ℕ). zeroed n cells) e in
+opened_memory p cells row k is e few =
+    let a = take-replicate (length p.variables) 64 0 few in
+    let b : row ≡ zeroed (cells_needed p) cells = is ∙ ap (λ (n : ℕ). zeroed n cells) e in
     λ i. record { numbers = a i; cells = b i }

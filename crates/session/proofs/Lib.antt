@@ -8,5 +8,4 @@ pub mod Sound
 pub mod Moving
 pub mod Stepping
 pub mod Running
-pub mod Calling
 pub mod Splitting

@@ -3,7 +3,7 @@ use Rattle.std.proofs.Common.{◌≡◌, ℕ, zero, suc, ◌<◌, ◌≤◌, Boo
 use Rattle.labels.specs.declared.order.LabelOrder as LabelOrder
 use Rattle.std.proofs.lemmas.Bool.{and_parts, and_from, or_cases, or_right, eqb-true, ltb-true, leb-true, lt-ltb, le-leb, cond_both}
 use Rattle.sheet.specs.declared.tables.Form.{Form}
-use Rattle.sheet.specs.declared.tables.Form.TheVariants.{Skip, Copy, Constant, Binary, Fetch, Mux, Store, If, While, Declass, Oram}
+use Rattle.sheet.specs.declared.tables.Form.TheVariants.{If, While}
 use Rattle.sheet.specs.declared.tables.Record.{Record}
 use Rattle.model.specs.Nesting.{record_at, branches}
 use Rattle.model.specs.Program.{Program}
@@ -17,64 +17,28 @@ use Rattle.session.specs.Piles.{piled, moved}
 use Rattle.session.proofs.Sound.{few_records, some_record, record_runs, record_links}
 use Rattle.session.specs.Acting.{Runs}
 
--- a zero on top is taken off
-pub no_more : (x : ℕ) (rest : List ℕ) → stripped (0 ∷ (x ∷ rest)) ≡ stripped (x ∷ rest)
-unfolding stripped
-no_more x rest = refl
-
 pub onward_moved : (p : Program) (r next : ℕ) (f : Form) (m : Memory) (rest : List ℕ) →
     stripped ((moved p r next f m).1 ∷ ((moved p r next f m).0 ∷ rest)) ≡ stripped (onward p r next f m rest)
-onward_moved p r next Skip m rest = no_more next rest
-onward_moved p r next (Copy x a) m rest = no_more next rest
-onward_moved p r next (Constant x k) m rest = no_more next rest
-onward_moved p r next (Binary x a b op) m rest = no_more next rest
-onward_moved p r next (Fetch x a b) m rest = no_more next rest
-onward_moved p r next (Mux x a b c) m rest = no_more next rest
-onward_moved p r next (Store x a b) m rest = no_more next rest
+unfolding stripped
 onward_moved p r next (If a first second) m rest = refl
 onward_moved p r next (While a body) m rest = go (holds (held p m a 0))
   where
     go : (t : Bool) → stripped ((cond {A = ℕ × ℕ} t (r, body) (next, 0)).1 ∷ ((cond {A = ℕ × ℕ} t (r, body) (next, 0)).0 ∷ rest)) ≡ stripped (cond t (body ∷ (r ∷ rest)) (next ∷ rest))
     go true = refl
-    go false = no_more next rest
-onward_moved p r next (Declass x a) m rest = no_more next rest
-onward_moved p r next (Oram x a) m rest = no_more next rest
+    go false = refl
+onward_moved p r next f m rest = refl
 
 -- what is put above is a branch, or nothing
 above_fits : (p : Program) (r next count : ℕ) (f : Form) (m : Memory) → link_fits count r (branches f).0 ≡ true → link_fits count r (branches f).1 ≡ true → link_fits count r (moved p r next f m).1 ≡ true
-above_fits p r next count Skip m g h = refl
-above_fits p r next count (Copy x a) m g h = refl
-above_fits p r next count (Constant x k) m g h = refl
-above_fits p r next count (Binary x a b op) m g h = refl
-above_fits p r next count (Fetch x a b) m g h = refl
-above_fits p r next count (Mux x a b c) m g h = refl
-above_fits p r next count (Store x a b) m g h = refl
 above_fits p r next count (If a first second) m g h = cond_both (holds (held p m a 0)) first second (λ l. link_fits count r l ≡ true) (λ _. g) (λ _. h)
-above_fits p r next count (While a body) m g h = go (holds (held p m a 0))
-  where
-    go : (t : Bool) → link_fits count r (cond {A = ℕ × ℕ} t (r, body) (next, 0)).1 ≡ true
-    go true = g
-    go false = refl
-above_fits p r next count (Declass x a) m g h = refl
-above_fits p r next count (Oram x a) m g h = refl
+above_fits p r next count (While a body) m g h = cond_both (holds (held p m a 0)) (r, body) (next, 0) (λ (t : ℕ × ℕ). link_fits count r t.1 ≡ true) (λ _. g) (λ _. refl)
+above_fits p r next count f m g h = refl
 
 -- what takes the place of r is r itself, or the record after it
 place_cases : (p : Program) (r next : ℕ) (f : Form) (m : Memory) → ((moved p r next f m).0 ≡ r) ⊎ ((moved p r next f m).0 ≡ next)
-place_cases p r next Skip m = inr refl
-place_cases p r next (Copy x a) m = inr refl
-place_cases p r next (Constant x k) m = inr refl
-place_cases p r next (Binary x a b op) m = inr refl
-place_cases p r next (Fetch x a b) m = inr refl
-place_cases p r next (Mux x a b c) m = inr refl
-place_cases p r next (Store x a b) m = inr refl
-place_cases p r next (If a first second) m = inr refl
-place_cases p r next (While a body) m = go (holds (held p m a 0))
-  where
-    go : (t : Bool) → ((cond {A = ℕ × ℕ} t (r, body) (next, 0)).0 ≡ r) ⊎ ((cond {A = ℕ × ℕ} t (r, body) (next, 0)).0 ≡ next)
-    go true = inl refl
-    go false = inr refl
-place_cases p r next (Declass x a) m = inr refl
-place_cases p r next (Oram x a) m = inr refl
+place_cases p r next (While a body) m =
+    cond_both (holds (held p m a 0)) (r, body) (next, 0) (λ (t : ℕ × ℕ). (t.0 ≡ r) ⊎ (t.0 ≡ next)) (λ _. inl refl) (λ _. inr refl)
+place_cases p r next f m = inr refl
 
 -- a link as numbers
 Rises : ℕ → ℕ → ℕ → Type 0
@@ -101,16 +65,13 @@ piled_stripped count (zero ∷ s) h = piled_stripped count s h
 piled_stripped count (suc r ∷ s) h = h
 
 -- record n on top of a clean stack that climbs
-module _ {A : Type 0} {g : LabelOrder.Ghosts A} (q : checked.Program A g) (m : Memory) (st : List ℕ) (n : ℕ) (rest : List ℕ) (r : Record) (on : st ≡ n ∷ rest)
+module _ {A : Type 0} {g : LabelOrder.Ghosts A} (q : checked.Program A g) (st : List ℕ) (n : ℕ) (rest : List ℕ) (r : Record) (on : st ≡ n ∷ rest)
     (is : r ≡ record_at (contents q).tables.records n) (climbs : piled (records_in q) st ≡ true) (clean : stripped st ≡ st) where
   abbrev p : Program
   p = (contents q).tables
 
   abbrev count : ℕ
   count = records_in q
-
-  abbrev size : ℕ
-  size = length p.records
 
   parts : (link_fits count (length rest) n ≡ true) × (piled count rest ≡ true)
   parts = and_parts _ _ (ap (piled count) (sym on) ∙ climbs)
@@ -125,41 +86,38 @@ module _ {A : Type 0} {g : LabelOrder.Ghosts A} (q : checked.Program A g) (m : M
   pub top_runs : Runs p r.form
   top_runs = let t = within in subst (λ (x : Record). Runs p x.form) (sym is) (record_runs q n t.0 t.2)
 
-  links : (link_fits size n r.next ≡ true) × (link_fits size n (branches r.form).0 ≡ true) × (link_fits size n (branches r.form).1 ≡ true)
+  links : (link_fits count n r.next ≡ true) × (link_fits count n (branches r.form).0 ≡ true) × (link_fits count n (branches r.form).1 ≡ true)
   links =
       let t = within in
-      subst (λ (x : Record). (link_fits size n x.next ≡ true) × (link_fits size n (branches x.form).0 ≡ true) × (link_fits size n (branches x.form).1 ≡ true)) (sym is)
+      subst (λ (x : Record). (link_fits count n x.next ≡ true) × (link_fits count n (branches x.form).0 ≡ true) × (link_fits count n (branches x.form).1 ≡ true)) (sym is)
       (record_links q n t.0 t.2)
 
-  abbrev place : ℕ
-  place = (moved p n r.next r.form m).0
+  -- what takes its place, and what is put above
+  module _ (m : Memory) (place above : ℕ) (moves : (place, above) ≡ moved p n r.next r.form m) where
+    above_within : 0 < above → (n < above) × (above ≤ count)
+    unfolding Rises
+    above_within = rises count n above (ap (λ (t : ℕ × ℕ). link_fits count n t.1) moves ∙ above_fits p n r.next count r.form m links.1 links.2)
 
-  abbrev above : ℕ
-  above = (moved p n r.next r.form m).1
+    place_within : 0 < place → (length rest < place) × (place ≤ count)
+    unfolding Rises
+    place_within h =
+        let t = within in
+        let is_place : place ≡ (moved p n r.next r.form m).0 = ap (λ (t : ℕ × ℕ). t.0) moves in
+        ⊎_elim (λ e. omega (arith, e, t))
+        (λ e. let l : 0 < r.next = omega (arith, e) in omega (arith, e, t, rises count n r.next links.0 l))
+        (place_cases p n r.next r.form m)
 
-  above_within : 0 < above → (n < above) × (above ≤ count)
-  unfolding Rises
-  above_within h = omega (arith, rises size n above (above_fits p n r.next size r.form m links.1 links.2) h)
+    -- room for one more
+    pub room : 0 < above → length st < 512
+    room h = omega (arith, above_within h, within, few_records q, ap length on)
 
-  place_within : 0 < place → (length rest < place) × (place ≤ count)
-  unfolding Rises
-  place_within h =
-      let t = within in
-      ⊎_elim (λ e. omega (arith, e, t))
-      (λ e. let l : 0 < r.next = omega (arith, e) in omega (arith, e, t, rises size n r.next links.0 l))
-      (place_cases p n r.next r.form m)
-
-  -- room for one more
-  pub room : 0 < above → length st < 512
-  room h = omega (arith, above_within h, within, few_records q, ap length on)
-
-  pub still_climbs : piled count (stripped (above ∷ (place ∷ rest))) ≡ true
-  unfolding Rises
-  still_climbs =
-      let t = within in
-      piled_stripped count (above ∷ (place ∷ rest))
-      (and_from _ _ (test_rises count (suc (length rest)) above (λ h. omega (arith, above_within h, t)))
-      (and_from _ _ (test_rises count (length rest) place place_within) parts.1))
+    pub still_climbs : piled count (stripped (above ∷ (place ∷ rest))) ≡ true
+    unfolding Rises
+    still_climbs =
+        let t = within in
+        piled_stripped count (above ∷ (place ∷ rest))
+        (and_from _ _ (test_rises count (suc (length rest)) above (λ h. omega (arith, above_within h, t)))
+        (and_from _ _ (test_rises count (length rest) place place_within) parts.1))
 
 -- what was stripped has no zero on top
 pub still_clean : (st s : List ℕ) → st ≡ stripped s → stripped st ≡ st

@@ -2,6 +2,7 @@
 use Rattle.std.proofs.Common.{◌≡◌, ℕ, ◌+◌, ◌<◌, ◌≤◌, true, false, eqb, ltb, List, length, get_or, set, sym, ap, ◌∙◌, ⊎_elim}
 use Rattle.std.proofs.lemmas.List.{get_or_past, set_past}
 use Rattle.std.proofs.lemmas.Bool.{cases_lt, lt-ltb, le-ltb, ltb-true, and_parts, cond-true, cond-false}
+use Rattle.sheet.specs.declared.tables.Kind.{Kind}
 use Rattle.sheet.specs.declared.tables.Kind.TheVariants.{Number, Array}
 use Rattle.sheet.specs.declared.tables.Variable.{Variable}
 use Rattle.model.specs.Program.{Program, IsVariable, kind_of, length_of, base, variable_at}
@@ -45,46 +46,50 @@ module _ (p : Program) (m : Memory) (v i k : ℕ) (array : IsArray p v)
       (λ more. ap (λ (row : List ℕ). record { numbers = m.numbers; cells = row }) (set_past m.cells k value (beyond more)) ∙ sym (cond-false _ _ _ (out_test more)))
       (cases_lt i (length_of p.variables v))
 
--- is there such a place
-module _ (p : Program) (v i : ℕ) where
-  pub has_number : (t : Variable) → v < length p.variables → t ≡ variable_at p.variables v → t.kind ≡ Number → eqb i 0 ≡ has_place p v i
-  unfolding has_place inside
-  has_number t h e k =
-      let q : kind_of p.variables v ≡ Number = ap (λ (x : Variable). x.kind) (sym e) ∙ k in
-      let l = lt-ltb v (length p.variables) h in
-      rw (l, q)
+-- the kind of a variable, and whether there is such a place
+module _ (p : Program) (v : ℕ) (t : Variable) (here : t ≡ variable_at p.variables v) where
+  kind_is : (k : Kind) → t.kind ≡ k → kind_of p.variables v ≡ k
+  kind_is k e = ap (λ (x : Variable). x.kind) (sym here) ∙ e
 
-  pub has_array : (t : Variable) (n : ℕ) → v < length p.variables → t ≡ variable_at p.variables v → t.kind ≡ Array n → ltb i n ≡ has_place p v i
-  unfolding has_place inside
-  has_array t n h e k =
-      let q : kind_of p.variables v ≡ Array n = ap (λ (x : Variable). x.kind) (sym e) ∙ k in
-      let l = lt-ltb v (length p.variables) h in
-      rw (l, q)
+  pub is_number : t.kind ≡ Number → IsNumber p v
+  is_number e = kind_is Number e
 
-  pub has_none : length p.variables ≤ v → false ≡ has_place p v i
-  unfolding has_place
-  has_none h = let l = le-ltb v (length p.variables) h in rw l
+  pub is_array : (n : ℕ) → t.kind ≡ Array n → IsArray p v
+  is_array n e = (n, kind_is (Array n) e)
+
+  module _ (i : ℕ) (h : v < length p.variables) where
+    pub has_number : t.kind ≡ Number → eqb i 0 ≡ has_place p v i
+    unfolding has_place inside
+    has_number e = rw (lt-ltb v (length p.variables) h, kind_is Number e)
+
+    pub has_array : (n : ℕ) → t.kind ≡ Array n → ltb i n ≡ has_place p v i
+    unfolding has_place inside
+    has_array n e = rw (lt-ltb v (length p.variables) h, kind_is (Array n) e)
+
+pub has_none : (p : Program) (v i : ℕ) → length p.variables ≤ v → false ≡ has_place p v i
+unfolding has_place
+has_none p v i h = rw (le-ltb v (length p.variables) h)
 
 -- a place that there is
-module _ (p : Program) (m : Memory) (v i : ℕ) (has : has_place p v i ≡ true) where
-  pub has_variable : IsVariable p v
+module _ (p : Program) (v i : ℕ) (has : has_place p v i ≡ true) where
+  parts : (ltb v (length p.variables) ≡ true) × (inside p v i ≡ true)
   unfolding has_place
-  has_variable = ltb-true v (length p.variables) (and_parts (ltb v (length p.variables)) (inside p v i) has).0
+  parts = and_parts _ _ has
 
-  has_inside : inside p v i ≡ true
-  unfolding has_place
-  has_inside = (and_parts (ltb v (length p.variables)) (inside p v i) has).1
+  pub there : IsVariable p v
+  there = ltb-true _ _ parts.0
 
-  pub look_number : IsNumber p v → held p m v 0 ≡ held p m v i
-  look_number k = ap (held p m v) (sym (inside_number p v i k has_inside))
+  module _ (m : Memory) where
+    pub look_number : IsNumber p v → held p m v 0 ≡ held p m v i
+    look_number k = ap (held p m v) (sym (inside_number p v i k parts.1))
 
-  pub enter_number : (value : ℕ) → IsNumber p v → put p m v 0 value ≡ put p m v i value
-  enter_number value k = ap (λ (j : ℕ). put p m v j value) (sym (inside_number p v i k has_inside))
+    pub enter_number : (value : ℕ) → IsNumber p v → put p m v 0 value ≡ put p m v i value
+    enter_number value k = ap (λ (j : ℕ). put p m v j value) (sym (inside_number p v i k parts.1))
 
-  pub look_array : fetched p m v i ≡ held p m v i
-  unfolding fetched
-  look_array = cond-true _ _ _ has_inside
+    pub look_array : fetched p m v i ≡ held p m v i
+    unfolding fetched
+    look_array = cond-true _ _ _ parts.1
 
-  pub enter_array : (value : ℕ) → stored p m v i value ≡ put p m v i value
-  unfolding stored
-  enter_array value = cond-true _ _ _ has_inside
+    pub enter_array : (value : ℕ) → stored p m v i value ≡ put p m v i value
+    unfolding stored
+    enter_array value = cond-true _ _ _ parts.1

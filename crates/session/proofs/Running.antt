@@ -81,13 +81,10 @@ module _ (L : Labels) (p : Program) where
   run_full zero room c e h l = absurd (omega arith)
   run_full (suc m) room c e h l = cond-false _ _ _ e ∙ cond-true _ _ _ (lt-ltb room 6 l)
 
-  pub run_step : (m room : ℕ) (c : Config) → ended c ≡ false → 0 < m → 6 ≤ room
-      → steps L p m room c ≡ then_ran (written L p c) (steps L p (m - 1) (room - length (written L p c)) (step p c))
+  pub run_step : (m room : ℕ) (c : Config) → ended c ≡ false → 6 ≤ room
+      → steps L p (suc m) room c ≡ then_ran (written L p c) (steps L p m (room - length (written L p c)) (step p c))
   unfolding steps
-  run_step zero room c e h l = absurd (omega arith)
-  run_step (suc m) room c e h l =
-      let k : suc m - 1 ≡ m = omega arith in
-      rw k (cond-false _ _ _ e ∙ cond-false _ _ _ (le-ltb room 6 l))
+  run_step m room c e l = cond-false _ _ _ e ∙ cond-false _ _ _ (le-ltb room 6 l)
 
   -- one step more: what remains to be done is still the same whole
   pub run_more : (n k at next : ℕ) (t t0 new : List Entry) (c c' : Config) (whole : Ran)
@@ -101,17 +98,16 @@ module _ (L : Labels) (p : Program) where
       let es : List Entry = written L p c in
       let few : length es ≤ 6 = written_six L p c.memory c.stack in
       let fits : at + length es ≤ length t = omega arith in
-      let left : n - k - 1 ≡ n - (k + 1) = omega arith in
+      let left : n - k ≡ suc (n - (k + 1)) = omega arith in
       let rest : length t - at - length es ≡ length new - next = omega arith in
-      let more = more_with k at t t0 es (steps L p (n - k) (length t - at) c) (steps L p (n - k - 1) (length t - at - length es) (step p c)) whole
-      (run_step (n - k) (length t - at) c live (omega arith) room) fits kept inv in (
+      let more = more_with k at t t0 es (steps L p (n - k) (length t - at) c) (steps L p (n - (k + 1)) (length t - at - length es) (step p c)) whole
+      (ap (λ (x : ℕ). steps L p x (length t - at) c) left ∙ run_step (n - (k + 1)) (length t - at) c live room) fits kept inv in (
         omega arith,
         ap (λ (x : ℕ). drop x new) moved ∙ ap (drop (at + length es)) wrote ∙ more.0 ∙ ap (λ (x : ℕ). drop x t0) (sym moved),
         ap (λ (x : ℕ). joined_run (k + 1) (take x new) (steps L p (n - (k + 1)) (length new - next) c')) moved
             ∙ ap (λ (x : List Entry). joined_run (k + 1) (take (at + length es) x) (steps L p (n - (k + 1)) (length new - next) c')) wrote
             ∙ ap (λ (x : Config). joined_run (k + 1) (take (at + length es) (write_at t at es)) (steps L p (n - (k + 1)) (length new - next) x)) after
             ∙ ap (λ (x : ℕ). joined_run (k + 1) (take (at + length es) (write_at t at es)) (steps L p (n - (k + 1)) x (step p c))) (sym rest)
-            ∙ ap (λ (x : ℕ). joined_run (k + 1) (take (at + length es) (write_at t at es)) (steps L p x (length t - at - length es) (step p c))) (sym left)
             ∙ more.1,
       )
 

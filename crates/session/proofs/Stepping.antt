@@ -17,12 +17,12 @@ write_at_append t at (e ∷ es) fs =
     ap (λ k. write_at (write_at (set t at e) (at + 1) es) k fs) f ∙ write_at_append (set t at e) (at + 1) es fs
 
 module _ (L : Labels) (p : Program) (m : Memory) (st : List ℕ) (n : ℕ) (rest : List ℕ) (r : Record) (on : st ≡ n ∷ rest) (is : r ≡ record_at p.records n)
-    (after : List ℕ) (go : after ≡ stripped ((moved p n r.next r.form m).1 ∷ ((moved p n r.next r.form m).0 ∷ rest))) where
+    (place above : ℕ) (moves : (place, above) ≡ moved p n r.next r.form m) (after : List ℕ) (go : after ≡ stripped (above ∷ (place ∷ rest))) where
   abbrev here : Config
   here = record { memory = m; stack = st }
 
   went : after ≡ stripped (onward p n r.next r.form m rest)
-  went = go ∙ onward_moved p n r.next r.form m rest
+  went = go ∙ ap (λ (t : ℕ × ℕ). stripped (t.1 ∷ (t.0 ∷ rest))) moves ∙ onward_moved p n r.next r.form m rest
 
   step_is : step p here ≡ record { memory = act p r.form m; stack = stripped (onward p n r.next r.form m rest) }
   unfolding step

@@ -1,7 +1,7 @@
 -- Bytes that are not refused are those of one entry. Assumes nothing.
-use Rattle.std.proofs.Common.{◌≡◌, ℕ, zero, suc, ◌+◌, ◌*◌, ◌/◌, ◌%◌, ◌^◌, ◌<◌, ◌≤◌, Bool, true, false, cond, ◌||◌, eqb, ltb, List, [], ◌∷◌, length, is_some, None, sym, refl, ap, ◌∙◌, arith}
+use Rattle.std.proofs.Common.{◌≡◌, ℕ, zero, suc, ◌+◌, ◌*◌, ◌/◌, ◌%◌, ◌^◌, ◌<◌, ◌≤◌, true, false, cond, not, ◌&&◌, ◌||◌, eqb, ltb, List, [], ◌∷◌, length, is_some, None, sym, refl, ap, ◌∙◌, arith}
 use Rattle.std.proofs.lemmas.List.FromFn.{fill_by_all}
-use Rattle.std.proofs.lemmas.Bool.{eqb-true, ltb-true, eq-eqb}
+use Rattle.std.proofs.lemmas.Bool.{false≢true, and_parts, not-true, eqb-true, ltb-true, eq-eqb}
 use Rattle.std.proofs.lemmas.Bool.Decides.{nat_tests}
 use Rattle.sheet.specs.declared.faults.SheetFault.TheVariants.{Operator}
 use Rattle.sheet.specs.declared.faults.SheetFault.TheVariants.{Form as Form-rule}
@@ -29,7 +29,7 @@ pub word16_high : (a b : ℕ) → a < 256 → b < 256 → (a + b * 256) / 256 % 
 word16_high a b h k = omega arith
 
 operator_from : (n : ℕ) → is_some (operator n) ≡ true → (op : Op) × (operator_code op ≡ n)
-operator_from zero e = let z : ◌≡◌ {A = Bool} false true = e in let y : ◌≡◌ {A = ℕ} 0 1 = cc in absurd (omega arith)
+operator_from zero e = absurd (false≢true e)
 operator_from (suc zero) e = (Sum, refl)
 operator_from (suc (suc zero)) e = (Difference, refl)
 operator_from (suc (suc (suc zero))) e = (Product, refl)
@@ -38,7 +38,7 @@ operator_from (suc (suc (suc (suc (suc zero))))) e = (Less, refl)
 operator_from (suc (suc (suc (suc (suc (suc zero)))))) e = (And, refl)
 operator_from (suc (suc (suc (suc (suc (suc (suc zero))))))) e = (Or, refl)
 operator_from (suc (suc (suc (suc (suc (suc (suc (suc zero)))))))) e = (Xor, refl)
-operator_from (suc (suc (suc (suc (suc (suc (suc (suc (suc n))))))))) e = let z : ◌≡◌ {A = Bool} false true = grind (arith, nat_tests, e) in let y : ◌≡◌ {A = ℕ} 0 1 = cc in absurd (omega arith)
+operator_from (suc (suc (suc (suc (suc (suc (suc (suc (suc n))))))))) e = absurd (false≢true (grind (arith, nat_tests, e)))
 
 pub variable_few : (p before : ℕ) (q : List ℕ) → variable_refusal p before q ≡ None → before + word16 q 2 ≤ 16384
 unfolding variable_refusal
@@ -74,11 +74,12 @@ module _ (p : ℕ) (q : List ℕ) (long : length q ≡ 12) (fits : Bytes q) (ok 
   known = ltb-true _ _ (passed _ _ (both_none _ _ ok).0)
 
   -- a byte that the form leaves unused
-  unused : (f i : ℕ) → byte q 0 ≡ f → i < 12 → used f i ≡ false → byte q i ≡ 0
+  unused : {f : ℕ} → byte q 0 ≡ f → (i : ℕ) → ltb i 12 && not (used f i) ≡ true → byte q i ≡ 0
   unfolding record_refusal
-  unused f i e h u =
-      let t = passed _ _ (none_first (byte_refusal p q) 12 (both_none _ _ (both_none _ _ ok).1).0 i h) in
-      let s : used (byte q 0) i ≡ false = ap (λ b. used b i) e ∙ u in
+  unused {f} e i u =
+      let both = and_parts (ltb i 12) (not (used f i)) u in
+      let t = passed _ _ (none_first (byte_refusal p q) 12 (both_none _ _ (both_none _ _ ok).1).0 i (ltb-true _ _ both.0)) in
+      let s : used (byte q 0) i ≡ false = ap (λ b. used b i) e ∙ not-true _ both.1 in
       eqb-true _ _ (ap (λ b. b || eqb (byte q i) 0) (sym s) ∙ t)
 
   op_known : byte q 0 ≡ 3 → is_some (operator (byte q 5)) ≡ true
@@ -117,39 +118,28 @@ module _ (p : ℕ) (q : List ℕ) (long : length q ≡ 12) (fits : Bytes q) (ok 
   record_of_form : (f : ℕ) → byte q 0 ≡ f → f < 11 → (r : Record) × RecordFits r × (q ≡ record_bytes r)
   unfolding made
   record_of_form zero e h =
-      let z = λ (i : ℕ) (l : i < 12) (u : used 0 i ≡ false). unused 0 i e l u in
-      (made Skip, (fits 1, word 6 7, tt), cc (spelt12, e, low 6 7, high 6 7, z 2 (omega arith) refl, z 3 (omega arith) refl, z 4 (omega arith) refl, z 5 (omega arith) refl, z 8 (omega arith) refl, z 9 (omega arith) refl, z 10 (omega arith) refl, z 11 (omega arith) refl))
+      (made Skip, (fits 1, word 6 7, tt), cc (spelt12, e, low 6 7, high 6 7, unused e 2 refl, unused e 3 refl, unused e 4 refl, unused e 5 refl, unused e 8 refl, unused e 9 refl, unused e 10 refl, unused e 11 refl))
   record_of_form (suc zero) e h =
-      let z = λ (i : ℕ) (l : i < 12) (u : used 1 i ≡ false). unused 1 i e l u in
-      (made (Copy (byte q 2) (byte q 3)), (fits 1, word 6 7, (fits 2, fits 3)), cc (spelt12, e, low 6 7, high 6 7, z 4 (omega arith) refl, z 5 (omega arith) refl, z 8 (omega arith) refl, z 9 (omega arith) refl, z 10 (omega arith) refl, z 11 (omega arith) refl))
+      (made (Copy (byte q 2) (byte q 3)), (fits 1, word 6 7, (fits 2, fits 3)), cc (spelt12, e, low 6 7, high 6 7, unused e 4 refl, unused e 5 refl, unused e 8 refl, unused e 9 refl, unused e 10 refl, unused e 11 refl))
   record_of_form (suc (suc zero)) e h =
-      let z = λ (i : ℕ) (l : i < 12) (u : used 2 i ≡ false). unused 2 i e l u in
-      (made (Constant (byte q 2) (word32 q 8)), (fits 1, word 6 7, (fits 2, quad)), cc (spelt12, e, low 6 7, high 6 7, byte8, byte9, byte10, byte11, z 3 (omega arith) refl, z 4 (omega arith) refl, z 5 (omega arith) refl))
+      (made (Constant (byte q 2) (word32 q 8)), (fits 1, word 6 7, (fits 2, quad)), cc (spelt12, e, low 6 7, high 6 7, byte8, byte9, byte10, byte11, unused e 3 refl, unused e 4 refl, unused e 5 refl))
   record_of_form (suc (suc (suc zero))) e h =
-      let z = λ (i : ℕ) (l : i < 12) (u : used 3 i ≡ false). unused 3 i e l u in
       let o = operator_from (byte q 5) (op_known e) in
-      (made (Binary (byte q 2) (byte q 3) (byte q 4) o.0), (fits 1, word 6 7, (fits 2, fits 3, fits 4)), cc (spelt12, e, low 6 7, high 6 7, o.1, z 8 (omega arith) refl, z 9 (omega arith) refl, z 10 (omega arith) refl, z 11 (omega arith) refl))
+      (made (Binary (byte q 2) (byte q 3) (byte q 4) o.0), (fits 1, word 6 7, (fits 2, fits 3, fits 4)), cc (spelt12, e, low 6 7, high 6 7, o.1, unused e 8 refl, unused e 9 refl, unused e 10 refl, unused e 11 refl))
   record_of_form (suc (suc (suc (suc zero)))) e h =
-      let z = λ (i : ℕ) (l : i < 12) (u : used 4 i ≡ false). unused 4 i e l u in
-      (made (Fetch (byte q 2) (byte q 3) (byte q 4)), (fits 1, word 6 7, (fits 2, fits 3, fits 4)), cc (spelt12, e, low 6 7, high 6 7, z 5 (omega arith) refl, z 8 (omega arith) refl, z 9 (omega arith) refl, z 10 (omega arith) refl, z 11 (omega arith) refl))
+      (made (Fetch (byte q 2) (byte q 3) (byte q 4)), (fits 1, word 6 7, (fits 2, fits 3, fits 4)), cc (spelt12, e, low 6 7, high 6 7, unused e 5 refl, unused e 8 refl, unused e 9 refl, unused e 10 refl, unused e 11 refl))
   record_of_form (suc (suc (suc (suc (suc zero))))) e h =
-      let z = λ (i : ℕ) (l : i < 12) (u : used 5 i ≡ false). unused 5 i e l u in
-      (made (Mux (byte q 2) (byte q 3) (byte q 4) (byte q 5)), (fits 1, word 6 7, (fits 2, fits 3, fits 4, fits 5)), cc (spelt12, e, low 6 7, high 6 7, z 8 (omega arith) refl, z 9 (omega arith) refl, z 10 (omega arith) refl, z 11 (omega arith) refl))
+      (made (Mux (byte q 2) (byte q 3) (byte q 4) (byte q 5)), (fits 1, word 6 7, (fits 2, fits 3, fits 4, fits 5)), cc (spelt12, e, low 6 7, high 6 7, unused e 8 refl, unused e 9 refl, unused e 10 refl, unused e 11 refl))
   record_of_form (suc (suc (suc (suc (suc (suc zero)))))) e h =
-      let z = λ (i : ℕ) (l : i < 12) (u : used 6 i ≡ false). unused 6 i e l u in
-      (made (Store (byte q 2) (byte q 3) (byte q 4)), (fits 1, word 6 7, (fits 2, fits 3, fits 4)), cc (spelt12, e, low 6 7, high 6 7, z 5 (omega arith) refl, z 8 (omega arith) refl, z 9 (omega arith) refl, z 10 (omega arith) refl, z 11 (omega arith) refl))
+      (made (Store (byte q 2) (byte q 3) (byte q 4)), (fits 1, word 6 7, (fits 2, fits 3, fits 4)), cc (spelt12, e, low 6 7, high 6 7, unused e 5 refl, unused e 8 refl, unused e 9 refl, unused e 10 refl, unused e 11 refl))
   record_of_form (suc (suc (suc (suc (suc (suc (suc zero))))))) e h =
-      let z = λ (i : ℕ) (l : i < 12) (u : used 7 i ≡ false). unused 7 i e l u in
-      (made (If (byte q 3) (word16 q 8) (word16 q 10)), (fits 1, word 6 7, (fits 3, word 8 9, word 10 11)), cc (spelt12, e, low 6 7, high 6 7, low 8 9, high 8 9, low 10 11, high 10 11, z 2 (omega arith) refl, z 4 (omega arith) refl, z 5 (omega arith) refl))
+      (made (If (byte q 3) (word16 q 8) (word16 q 10)), (fits 1, word 6 7, (fits 3, word 8 9, word 10 11)), cc (spelt12, e, low 6 7, high 6 7, low 8 9, high 8 9, low 10 11, high 10 11, unused e 2 refl, unused e 4 refl, unused e 5 refl))
   record_of_form (suc (suc (suc (suc (suc (suc (suc (suc zero)))))))) e h =
-      let z = λ (i : ℕ) (l : i < 12) (u : used 8 i ≡ false). unused 8 i e l u in
-      (made (While (byte q 3) (word16 q 8)), (fits 1, word 6 7, (fits 3, word 8 9)), cc (spelt12, e, low 6 7, high 6 7, low 8 9, high 8 9, z 2 (omega arith) refl, z 4 (omega arith) refl, z 5 (omega arith) refl, z 10 (omega arith) refl, z 11 (omega arith) refl))
+      (made (While (byte q 3) (word16 q 8)), (fits 1, word 6 7, (fits 3, word 8 9)), cc (spelt12, e, low 6 7, high 6 7, low 8 9, high 8 9, unused e 2 refl, unused e 4 refl, unused e 5 refl, unused e 10 refl, unused e 11 refl))
   record_of_form (suc (suc (suc (suc (suc (suc (suc (suc (suc zero))))))))) e h =
-      let z = λ (i : ℕ) (l : i < 12) (u : used 9 i ≡ false). unused 9 i e l u in
-      (made (Declass (byte q 2) (byte q 3)), (fits 1, word 6 7, (fits 2, fits 3)), cc (spelt12, e, low 6 7, high 6 7, z 4 (omega arith) refl, z 5 (omega arith) refl, z 8 (omega arith) refl, z 9 (omega arith) refl, z 10 (omega arith) refl, z 11 (omega arith) refl))
+      (made (Declass (byte q 2) (byte q 3)), (fits 1, word 6 7, (fits 2, fits 3)), cc (spelt12, e, low 6 7, high 6 7, unused e 4 refl, unused e 5 refl, unused e 8 refl, unused e 9 refl, unused e 10 refl, unused e 11 refl))
   record_of_form (suc (suc (suc (suc (suc (suc (suc (suc (suc (suc zero)))))))))) e h =
-      let z = λ (i : ℕ) (l : i < 12) (u : used 10 i ≡ false). unused 10 i e l u in
-      (made (Oram (byte q 2) (byte q 3)), (fits 1, word 6 7, (fits 2, fits 3)), cc (spelt12, e, low 6 7, high 6 7, z 4 (omega arith) refl, z 5 (omega arith) refl, z 8 (omega arith) refl, z 9 (omega arith) refl, z 10 (omega arith) refl, z 11 (omega arith) refl))
+      (made (Oram (byte q 2) (byte q 3)), (fits 1, word 6 7, (fits 2, fits 3)), cc (spelt12, e, low 6 7, high 6 7, unused e 4 refl, unused e 5 refl, unused e 8 refl, unused e 9 refl, unused e 10 refl, unused e 11 refl))
   record_of_form (suc (suc (suc (suc (suc (suc (suc (suc (suc (suc (suc f))))))))))) e h = absurd (omega arith)
 
   pub record_from : (r : Record) × RecordFits r × (q ≡ record_bytes r)

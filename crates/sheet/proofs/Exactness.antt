@@ -1,5 +1,5 @@
 -- Reading and laying out are exact. Assumes nothing.
-use Rattle.std.proofs.Common.{◌≡◌, ℕ, suc, ◌≤◌, cond, List, [], ◌∷◌, length, take, drop, is_some, None, Ok, Result, sym, refl, ap, ◌∙◌, subst, arith}
+use Rattle.std.proofs.Common.{◌≡◌, ℕ, suc, ◌≤◌, cond, List, [], ◌∷◌, length, take, drop, is_some, None, Ok, Result, sym, refl, ap, ◌∙◌, subst}
 use Rattle.std.specs.List.{slice_get}
 use Rattle.std.proofs.lemmas.List.{take_at}
 use Rattle.refusal.specs.Answers.{answer}
@@ -19,8 +19,8 @@ use Rattle.sheet.proofs.TableChecks.{from_limits, counted, layout_fits}
 -- lists that agree at each place are equal
 same_list : {X : Type 0} (xs ys : List X) → ((k : ℕ) → slice_get xs k ≡ slice_get ys k) → xs ≡ ys
 same_list [] [] h = refl
-same_list [] (y ∷ ys) h = let e = h 0 in let z : ◌≡◌ {A = ℕ} 0 1 = cc in absurd (omega arith)
-same_list (x ∷ xs) [] h = let e = h 0 in let z : ◌≡◌ {A = ℕ} 0 1 = cc in absurd (omega arith)
+same_list [] (y ∷ ys) h = let e = h 0 in cc
+same_list (x ∷ xs) [] h = let e = h 0 in cc
 same_list (x ∷ xs) (y ∷ ys) h =
     let e = h 0 in
     let t = same_list xs ys (λ k. h (suc k)) in
@@ -55,7 +55,7 @@ module _ (vs : List Variable) (rs : List Record) (before : List ℕ) (r : Result
     (is : r ≡ answer (layout_refusal vs rs (length before)) (length (sheet_bytes vs rs))) (left : after ≡ laid_over vs rs before) where
   goes : WithinLimits vs rs → length (sheet_bytes vs rs) ≤ length before → layout_refusal vs rs (length before) ≡ None
   goes fit room =
-      layout_fits vs rs (length before) (counted vs rs (from_limits _ _ fit.some_variable fit.few_variables fit.some_record fit.few_records) ∙ (reads_back vs rs fit).0) room
+      layout_fits vs rs (length before) (counted vs rs None (from_limits _ _ fit.some_variable fit.few_variables fit.some_record fit.few_records) ∙ (reads_back vs rs fit).0) room
 
   pub lays_exactly : LaysExactly vs rs before r after
   lays_exactly = record {

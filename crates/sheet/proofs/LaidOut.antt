@@ -6,7 +6,7 @@ use Rattle.std.proofs.lemmas.List.FromFn.{fill_by_all}
 use Rattle.std.proofs.lemmas.Bool.{cases_lt}
 use Rattle.sheet.specs.declared.tables.Variable.{Variable}
 use Rattle.sheet.specs.declared.tables.Record.{Record}
-use Rattle.sheet.specs.Format.{sheet_bytes, variable_bytes, record_bytes, byte, word16}
+use Rattle.sheet.specs.Format.{sheet_bytes, variable_bytes, record_bytes, byte}
 use Rattle.sheet.specs.Reading.{header_refusal, variable_refusal, variables_refusal, record_refusal, records_refusal, sheet_refusal, variable_count_of, record_count_of, variable_part, record_part, variable_place, record_place, cells_below, part}
 use Rattle.sheet.specs.Exact.{VariableFits, RecordFits, total_cells, WithinLimits}
 use Rattle.sheet.proofs.Coding.{length_variable, length_record}
@@ -21,19 +21,14 @@ part_fits : (bs : List ℕ) (p n : ℕ) → Bytes bs → Bytes (part bs p n)
 part_fits bs p n fits i =
     subst (λ l. byte l i < 256) (sym (cut bs p n))
     (⊎_elim
-    (λ h. let P : ℕ → Type 0 = λ b. b < 256 in subst P (sym (get_or-take n (drop p bs) i 0 h ∙ get_or-drop p bs i 0)) (fits (p + i)))
-    (λ (h : n ≤ i).
-    let short : length (take n (drop p bs)) ≤ i = simp length-take (omega arith) in
-    let P : ℕ → Type 0 = λ b. b < 256 in subst P (sym (get_or_past (take n (drop p bs)) i 0 short)) (omega arith))
+    (λ h. omega (arith, get_or-take n (drop p bs) i 0 h, get_or-drop p bs i 0, fits (p + i)))
+    (λ h. omega (arith, get_or_past (take n (drop p bs)) i 0 (simp length-take (omega arith))))
     (cases_lt i n))
 
 part_long : (bs : List ℕ) (p n : ℕ) → p + n ≤ length bs → length (part bs p n) ≡ n
 part_long bs p n h = ap length (cut bs p n) ∙ simp (length-take, length-drop) (omega arith)
 
 module _ (bs : List ℕ) (fits : Bytes bs) (ok : sheet_refusal bs ≡ None) where
-  v : ℕ
-  v = variable_count_of bs
-
   known : Header bs
   unfolding sheet_refusal
   known = header bs (both_none (header_refusal bs) _ ok).0
@@ -79,10 +74,7 @@ module _ (bs : List ℕ) (fits : Bytes bs) (ok : sheet_refusal bs ≡ None) wher
 
   few : (n : ℕ) → variable_count_of bs ≡ n → 1 ≤ n → cells_below bs n ≤ 16384
   few zero e h = absurd (omega arith)
-  few (suc k) e h = last (cells_below bs k) (each_variable k (omega arith))
-    where
-      last : (before : ℕ) → variable_refusal (variable_place k) before (variable_part bs k) ≡ None → before + word16 (variable_part bs k) 2 ≤ 16384
-      last before ok = variable_few (variable_place k) before (variable_part bs k) ok
+  few (suc k) e h = variable_few (variable_place k) (cells_below bs k) (variable_part bs k) (each_variable k (omega arith))
 
   total : (vs : List Variable) (rs : List Record) → length vs ≡ variable_count_of bs → AllByRecursion VariableFits vs → bs ≡ sheet_bytes vs rs → total_cells vs ≤ 16384
   total [] rs e all is = omega arith
@@ -92,25 +84,22 @@ module _ (bs : List ℕ) (fits : Bytes bs) (ok : sheet_refusal bs ≡ None) wher
       ∙ ap total_cells (take_all (length (x ∷ xs)) (x ∷ xs) (omega arith)) in
       omega (arith, few (length (x ∷ xs)) (sym e) (omega arith))
 
-  tables : (vs : List Variable) × (rs : List Record) × WithinLimits vs rs × (bs ≡ sheet_bytes vs rs)
-  tables =
+  -- so the bytes are the sheet of some tables within the limits
+  pub laid_out : (vs : List Variable) × (rs : List Record) × WithinLimits vs rs × (bs ≡ sheet_bytes vs rs)
+  laid_out =
       let h = known in
       let n = variables.1 in
       let m = records.1 in (
         variables.0,
         records.0,
         record {
-          some_variable = omega (arith, h.some_variable);
-          few_variables = omega (arith, h.few_variables);
-          some_record = omega (arith, h.some_record);
-          few_records = omega (arith, h.few_records);
+          some_variable = omega arith;
+          few_variables = omega arith;
+          some_record = omega arith;
+          few_records = omega arith;
           variables = variables.2;
           few_cells = total variables.0 records.0 variables.1 variables.2 same;
           records = records.2;
         },
         same,
       )
-
--- a byte string that is not refused is the sheet of some tables within the limits
-pub laid_out : (bs : List ℕ) → Bytes bs → sheet_refusal bs ≡ None → (vs : List Variable) × (rs : List Record) × WithinLimits vs rs × (bs ≡ sheet_bytes vs rs)
-laid_out bs fits ok = tables bs fits ok

@@ -1,5 +1,5 @@
 -- Tables within the limits are read back from their sheet. Assumes nothing.
-use Rattle.std.proofs.Common.{◌≡◌, ℕ, zero, suc, ◌+◌, ◌-◌, ◌*◌, ◌<◌, ◌≤◌, List, [], ◌∷◌, ◌++◌, length, get_or, take, drop, Some, None, Option, sym, refl, ap, ◌∙◌, ⊎_elim, append-nil, arith}
+use Rattle.std.proofs.Common.{◌≡◌, ℕ, zero, suc, ◌+◌, ◌-◌, ◌*◌, ◌<◌, ◌≤◌, List, [], ◌∷◌, length, get_or, take, drop, Some, None, Option, sym, refl, ap, ◌∙◌, ⊎_elim, append-nil, arith}
 use Rattle.std.specs.List.{flat_map, AllByRecursion}
 use Rattle.std.specs.Option.{option_or}
 use Rattle.std.proofs.lemmas.List.{drop-drop, drop_at, length-append}
@@ -37,27 +37,19 @@ or_none None = refl
 or_none (Some x) = refl
 
 module _ (vs : List Variable) (rs : List Record) where
-  bs : List ℕ
-  bs = sheet_bytes vs rs
-
-  tables : List ℕ
-  tables = flat_map variable_bytes vs ++ flat_map record_bytes rs
-
   pub variable_part_is : (k : ℕ) (d : Variable) → k < length vs → variable_part (sheet_bytes vs rs) k ≡ variable_bytes (get_or vs k d)
-  unfolding bs tables
   variable_part_is k d h =
-      cut bs (variable_place k) 4
-      ∙ ap (take 4) (sym (drop-drop (4 * k) 4 bs))
+      cut (sheet_bytes vs rs) (variable_place k) 4
+      ∙ ap (take 4) (sym (drop-drop (4 * k) 4 (sheet_bytes vs rs)))
       ∙ piece variable_bytes 4 length_variable vs (flat_map record_bytes rs) k d h
 
   pub record_part_is : (k : ℕ) (d : Record) → k < length rs → record_part (sheet_bytes vs rs) (length vs) k ≡ record_bytes (get_or rs k d)
-  unfolding bs tables
   record_part_is k d h =
-      cut bs (record_place (length vs) k) 12
+      cut (sheet_bytes vs rs) (record_place (length vs) k) 12
       ∙ ap (take 12) (
-      sym (drop-drop (12 * k) (4 + 4 * length vs) bs)
+      sym (drop-drop (12 * k) (4 + 4 * length vs) (sheet_bytes vs rs))
       ∙ ap (drop (12 * k)) (
-      sym (drop-drop (4 * length vs) 4 bs)
+      sym (drop-drop (4 * length vs) 4 (sheet_bytes vs rs))
       ∙ drop_at (flat_map variable_bytes vs) (flat_map record_bytes rs) (4 * length vs) (length_joined variable_bytes 4 length_variable vs)
       ∙ sym (append-nil (flat_map record_bytes rs))))
       ∙ piece record_bytes 12 length_record rs [] k d h

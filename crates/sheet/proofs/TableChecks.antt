@@ -1,5 +1,5 @@
 -- When tables are refused. Assumes nothing.
-use Rattle.std.proofs.Common.{◌≡◌, ℕ, ◌+◌, ◌<◌, ◌≤◌, List, length, Some, None, sym, refl, ap, ◌∙◌, add-one, arith}
+use Rattle.std.proofs.Common.{◌≡◌, ℕ, ◌+◌, ◌<◌, ◌≤◌, List, length, Some, None, Option, sym, refl, ap, ◌∙◌, add-one, arith}
 use Rattle.std.specs.Option.{option_or}
 use Rattle.std.proofs.lemmas.Bool.Decides.{nat_tests}
 use Rattle.sheet.specs.declared.faults.SheetFault.{SheetFault}
@@ -18,20 +18,21 @@ unfolding variables_refusal
 none_yet bs = refl
 
 -- the check of variable k, whose bytes are row
-module _ (bs : List ℕ) (k total : ℕ) (row : List ℕ) (is : row ≡ variable_part bs k) (sum : total ≡ cells_below bs k) (clear : variables_refusal bs k ≡ None) where
-  same : variable_refusal (variable_place k) total row ≡ variable_refusal (variable_place k) (cells_below bs k) (variable_part bs k)
-  same = (λ i. variable_refusal (variable_place k) (sum i) (is i))
+module _ (bs : List ℕ) (k place total : ℕ) (row : List ℕ) (here : place ≡ variable_place k) (is : row ≡ variable_part bs k) (sum : total ≡ cells_below bs k)
+    (clear : variables_refusal bs k ≡ None) where
+  same : variable_refusal place total row ≡ variable_refusal (variable_place k) (cells_below bs k) (variable_part bs k)
+  same = λ i. variable_refusal (here i) (sum i) (is i)
 
-  pub stops : (n : ℕ) (f : SheetFault) → k < n → variable_refusal (variable_place k) total row ≡ Some f → variables_refusal bs n ≡ Some f
+  pub stops : (n : ℕ) (f : SheetFault) → k < n → variable_refusal place total row ≡ Some f → variables_refusal bs n ≡ Some f
   unfolding variables_refusal
   stops n f h e = first_stop _ f k n h clear (sym same ∙ e)
 
-  pub goes_on : (next : ℕ) → variable_refusal (variable_place k) total row ≡ None → next ≡ total + word16 row 2
+  pub goes_on : (next : ℕ) → variable_refusal place total row ≡ None → next ≡ total + word16 row 2
       → (next ≡ cells_below bs (k + 1)) × (next ≤ 16384) × (variables_refusal bs (k + 1) ≡ None)
   unfolding variables_refusal
   goes_on next e add = (
     add ∙ (λ i. sum i + word16 (is i) 2) ∙ sym (ap (cells_below bs) (add-one k)),
-    omega (arith, variable_few (variable_place k) total row e),
+    omega (arith, variable_few place total row e),
     first_clear _ k clear (sym same ∙ e),
   )
 
@@ -42,20 +43,16 @@ pub from_limits : (n m : ℕ) → 1 ≤ n → n ≤ 64 → 1 ≤ m → m ≤ 512
 from_limits n m a b c d = grind (arith, nat_tests)
 
 module _ (vs : List Variable) (rs : List Record) where
-  pub refused_counts : (f : SheetFault) → counts_refusal (length vs) (length rs) ≡ Some f → tables_refusal vs rs ≡ Some f
+  -- the counts are checked first
+  pub counted : (o : Option SheetFault) → counts_refusal (length vs) (length rs) ≡ o → tables_refusal vs rs ≡ option_or o (sheet_refusal (sheet_bytes vs rs))
   unfolding tables_refusal
-  refused_counts f e = ap (λ o. option_or o (sheet_refusal (sheet_bytes vs rs))) e
+  counted o e = ap (λ p. option_or p (sheet_refusal (sheet_bytes vs rs))) e
 
-  -- the counts are as they should be
-  pub counted : counts_refusal (length vs) (length rs) ≡ None → tables_refusal vs rs ≡ sheet_refusal (sheet_bytes vs rs)
-  unfolding tables_refusal
-  counted e = ap (λ o. option_or o (sheet_refusal (sheet_bytes vs rs))) e
-
-  -- so only a variable can be refused
+  -- where they are as they should be, only a variable can be refused
   pub only_variables : counts_refusal (length vs) (length rs) ≡ None → tables_refusal vs rs ≡ variables_refusal (sheet_bytes vs rs) (length vs)
   only_variables e =
       let n = in_limits (length vs) (length rs) e in
-      counted e ∙ refused_by_variables vs rs (record { label = 0; next = 0; form = Skip }) n.0 n.1 n.2 n.3
+      counted None e ∙ refused_by_variables vs rs (record { label = 0; next = 0; form = Skip }) n.0 n.1 n.2 n.3
 
   pub counts : tables_refusal vs rs ≡ None → (1 ≤ length vs) × (length vs ≤ 64) × (1 ≤ length rs) × (length rs ≤ 512)
   unfolding tables_refusal

@@ -1,14 +1,15 @@
 -- A sheet is what is not refused. Assumes nothing.
-use Rattle.std.proofs.Common.{◌≡◌, ℕ, Bool, true, false, cond, not, List, is_some, Some, None, Option, sym, refl, ap}
+use Rattle.std.proofs.Common.{◌≡◌, ℕ, ◌≤◌, true, cond, not, List, length, is_some, Some, None, Option, sym, refl, ap}
+use Rattle.std.proofs.lemmas.Bool.{false≢true}
 use Rattle.refusal.proofs.First.{both_none}
 use Rattle.sheet.proofs.Header.{Header, header}
 use Rattle.sheet.specs.declared.faults.SheetFault.{SheetFault}
-use Rattle.sheet.specs.Reading.{sheet_refusal}
+use Rattle.sheet.specs.Reading.{sheet_refusal, variable_count_of, record_count_of, sheet_length}
 use Rattle.sheet.specs.Valid.{valid, read}
 
 none : (o : Option SheetFault) → not (is_some o) ≡ true → o ≡ None
 none None e = refl
-none (Some f) e = let z : ◌≡◌ {A = Bool} false true = e in cc
+none (Some f) e = absurd (false≢true e)
 
 pub none_from_valid : (bs : List ℕ) → valid bs ≡ true → sheet_refusal bs ≡ None
 unfolding valid
@@ -18,6 +19,16 @@ pub read_accepted : (old new : List ℕ) → sheet_refusal new ≡ None → new 
 unfolding valid
 read_accepted old new e = sym (ap (λ o. cond (not (is_some o)) new old) e)
 
-pub valid_header : (bs : List ℕ) → valid bs ≡ true → Header bs
-unfolding sheet_refusal
-valid_header bs v = header bs (both_none _ _ (none_from_valid bs v)).0
+module _ (bs : List ℕ) (v : valid bs ≡ true) where
+  pub valid_header : Header bs
+  unfolding sheet_refusal
+  valid_header = header bs (both_none _ _ (none_from_valid bs v)).0
+
+  pub few_variables : variable_count_of bs ≤ 64
+  few_variables = valid_header.few_variables
+
+  pub few_records : record_count_of bs ≤ 512
+  few_records = valid_header.few_records
+
+  pub long : length bs ≡ sheet_length (variable_count_of bs) (record_count_of bs)
+  long = valid_header.long

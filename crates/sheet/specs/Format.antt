@@ -41,17 +41,10 @@ operands (Oram x a) = x ∷ a ∷ 0 ∷ 0 ∷ []
 
 -- bytes 8 to 11
 abbrev pub rest : Form → List ℕ
-rest Skip = 0 ∷ 0 ∷ 0 ∷ 0 ∷ []
-rest (Copy x a) = 0 ∷ 0 ∷ 0 ∷ 0 ∷ []
 rest (Constant x value) = le32 value
-rest (Binary x a b op) = 0 ∷ 0 ∷ 0 ∷ 0 ∷ []
-rest (Fetch x a b) = 0 ∷ 0 ∷ 0 ∷ 0 ∷ []
-rest (Mux x a b c) = 0 ∷ 0 ∷ 0 ∷ 0 ∷ []
-rest (Store x a b) = 0 ∷ 0 ∷ 0 ∷ 0 ∷ []
 rest (If a then other) = le16 then ++ le16 other
 rest (While a body) = le16 body ++ (0 ∷ 0 ∷ [])
-rest (Declass x a) = 0 ∷ 0 ∷ 0 ∷ 0 ∷ []
-rest (Oram x a) = 0 ∷ 0 ∷ 0 ∷ 0 ∷ []
+rest f = 0 ∷ 0 ∷ 0 ∷ 0 ∷ []
 
 abbrev pub record_bytes : Record → List ℕ
 record_bytes r = form_code r.form ∷ r.label ∷ (operands r.form ++ (le16 r.next ++ rest r.form))

@@ -7,7 +7,7 @@ ghost use Rattle.sheet.specs.Exact.{ReadsExactly};
 
 use crate::codec::{record_of, variable_of};
 use crate::faults::SheetFault;
-use crate::reading::{check_sheet, record_place};
+use crate::reading::{check_sheet, record_place, variable_place};
 use crate::sheet::ReadSheet;
 use crate::tables::{Record, Variable};
 
@@ -22,6 +22,7 @@ impl<'a> ReadSheet<'a> {
     }
 
     // Takes the bytes in the place of what was read before, unless they are refused.
+    #[tactic(auto, using(crate::proofs::Exactness::reads_exactly))]
     pub fn read(&mut self, bytes: &'a [u8]) -> Result<(), SheetFault>
         ensures answers { result ≡ answer (sheet_refusal bytes.now) tt }
         ensures after { self.new.bytes.now ≡ read self.old.bytes.now bytes.now }
@@ -41,6 +42,7 @@ impl<'a> ReadSheet<'a> {
         Ok(())
     }
 
+    #[tactic(auto, using(crate::proofs::Validity::few_variables, crate::proofs::Validity::few_records, crate::proofs::Validity::long))]
     pub fn variables(&self) -> usize
         ensures count { result ≡ variable_count_of self.now.bytes.now }
         ensures fits { (result ≤ 64) × (variable_place result ≤ length self.now.bytes.now) }
@@ -48,6 +50,7 @@ impl<'a> ReadSheet<'a> {
         self.bytes[1] as usize
     }
 
+    #[tactic(auto, using(crate::proofs::Validity::few_variables, crate::proofs::Validity::few_records, crate::proofs::Validity::long))]
     pub fn records(&self) -> usize
         ensures count { result ≡ record_count_of self.now.bytes.now }
         ensures fits { (result ≤ 512) × (record_place (variable_count_of self.now.bytes.now) result ≤ length self.now.bytes.now) }
@@ -63,7 +66,7 @@ impl<'a> ReadSheet<'a> {
         if k >= self.variables() {
             return None;
         }
-        let p = 4 + 4 * k;
+        let p = variable_place(k);
         variable_of(&self.bytes[p..p + 4])
     }
 

@@ -6,7 +6,7 @@ ghost use Rattle.sheet.specs.Exact.{LaysExactly};
 ghost use Rattle.sheet.specs.Layout.{tables_refusal, layout_refusal, laid_over, over};
 
 use crate::faults::SheetFault;
-use crate::reading::{check_counts, check_variable, record_place};
+use crate::reading::{check_counts, check_variable, record_place, variable_place};
 use crate::tables::{Record, Variable};
 use crate::writing::{Row, put, put_rows};
 
@@ -25,13 +25,13 @@ impl<'a> Tables<'a> {
         check_counts(self.variables.len(), self.records.len())?;
         let mut total = 0;
         for (k, variable) in self.variables.iter().enumerate() {
-            total = check_variable(&variable.bytes(), 4 + 4 * k, total)?;
+            total = check_variable(&variable.bytes(), variable_place(k), total)?;
         }
         Ok(())
     }
 
     // Writes the sheet to the beginning of `out`, and answers its length. The law of `lay_out` is proved over these equations.
-    #[tactic(auto, using(std::proofs::lemmas::Bool::Decides::nat_tests, crate::proofs::ReadsBack::sheet_long), unfolding(crate::specs::Layout::layout_refusal))]
+    #[tactic(auto, using(std::proofs::lemmas::Bool::Decides::nat_tests, crate::proofs::ReadsBack::sheet_long, crate::proofs::TableChecks::counts), unfolding(crate::specs::Layout::layout_refusal))]
     fn lay(&self, out: &mut [u8]) -> Result<usize, SheetFault>
         ensures answers { result ≡ answer (layout_refusal self.now.variables.now self.now.records.now (length out.old)) (length (sheet_bytes self.now.variables.now self.now.records.now)) }
         ensures after { out.new ≡ laid_over self.now.variables.now self.now.records.now out.old }
@@ -57,6 +57,7 @@ impl<'a> Tables<'a> {
 }
 
 // Writes the sheet of the tables to the beginning of `out`, and answers its length.
+#[tactic(auto, using(crate::proofs::Exactness::lays_exactly))]
 pub fn lay_out(
     variables: &[Variable],
     records: &[Record],

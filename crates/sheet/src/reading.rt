@@ -8,12 +8,20 @@ use crate::codec::used;
 use crate::faults::SheetFault;
 use crate::tables::Op;
 
+// Where the variable numbered k begins.
+pub(crate) fn variable_place(k: usize) -> usize
+    requires { k ≤ 64 }
+    ensures { result ≡ variable_place k }
+{
+    4 + 4 * k
+}
+
 // Where the record numbered k + 1 begins, behind so many variables.
 pub(crate) fn record_place(variables: usize, k: usize) -> usize
     requires { (variables ≤ 64) × (k ≤ 512) }
     ensures { result ≡ record_place variables k }
 {
-    4 + 4 * variables + 12 * k
+    variable_place(variables) + 12 * k
 }
 
 // Whether there are so many variables and records in a sheet.
@@ -73,10 +81,10 @@ fn check_variables(bytes: &[u8], count: usize) -> Result<(), SheetFault>
     requires fits { (count ≤ 64) × (variable_place count ≤ length bytes.now) }
     ensures { result ≡ answer (variables_refusal bytes.now count) tt }
 {
-    let table = &bytes[4..4 + 4 * count];
+    let table = &bytes[4..variable_place(count)];
     let mut total = 0;
     for (k, row) in table.as_chunks::<4>().0.iter().enumerate() {
-        total = check_variable(row, 4 + 4 * k, total)?;
+        total = check_variable(row, variable_place(k), total)?;
     }
     Ok(())
 }
@@ -111,7 +119,7 @@ fn check_records(bytes: &[u8], variables: usize, count: usize) -> Result<(), She
     requires fits { (variables ≤ 64) × ((count ≤ 512) × (record_place variables count ≤ length bytes.now)) }
     ensures { result ≡ answer (records_refusal bytes.now variables count) tt }
 {
-    let table = &bytes[4 + 4 * variables..record_place(variables, count)];
+    let table = &bytes[variable_place(variables)..record_place(variables, count)];
     for (k, row) in table.as_chunks::<12>().0.iter().enumerate() {
         check_record(row, record_place(variables, k))?;
     }

@@ -24,6 +24,7 @@ fn first_cells<O: LabelOrder>(program: &Program<O>) -> [u32; 65]
 }
 
 // Sets the first n cells to 0, in rising order. A bank is reached by number alone, so the loop counts.
+#[tactic(auto, using(crate::proofs::Clearing::zeroed_more))]
 fn clear<B: Bank>(bank: &mut B, n: usize)
     ensures { B.cells bank.new ≡ zeroed n (B.cells bank.old) }
 {

@@ -13,6 +13,7 @@ use sheet::Kind;
 
 // Copies n cells to another place, which the source does not run into. A bank is reached by number alone, so the loop
 // counts.
+#[tactic(auto, using(crate::proofs::Copying::copied_more))]
 fn copy_cells<B: Bank>(bank: &mut B, source: usize, target: usize, n: usize)
     requires fits { (source + n < 2 ^ 64) × (target + n < 2 ^ 64) }
     requires apart { target < source + n → target ≤ source }
@@ -26,6 +27,7 @@ fn copy_cells<B: Bank>(bank: &mut B, source: usize, target: usize, n: usize)
 
 impl<O: LabelOrder, B: Bank> Memory<O, B> {
     // Has the bank fewer cells than the arrays need?
+    #[tactic(auto, using(crate::proofs::Laying::start_last))]
     pub(crate) fn too_small(&self) -> bool
         ensures { result ≡ nat_lt (length (memory_of B.cells self.now).cells) (cells_needed (tables_of self.now)) }
     {
@@ -33,6 +35,7 @@ impl<O: LabelOrder, B: Bank> Memory<O, B> {
     }
 
     // Is there such a variable, and is the index inside it?
+    #[tactic(auto, using(crate::proofs::Placing::has_number, crate::proofs::Placing::has_array, crate::proofs::Placing::has_none))]
     pub(crate) fn has_place(&self, v: u8, i: u32) -> bool
         ensures { result ≡ has_place (tables_of self.now) v i }
     {
@@ -44,6 +47,7 @@ impl<O: LabelOrder, B: Bank> Memory<O, B> {
     }
 
     // The cell of array v at index i; outside the array, one beyond the row.
+    #[tactic(auto, using(crate::proofs::Laying::start_at, crate::proofs::Reading::few_variables))]
     fn cell(&self, v: u8, i: u32) -> usize
         requires { IsVariable (tables_of self.now) v }
         ensures inside { i < length_of (tables_of self.now).variables v → result ≡ base (tables_of self.now) v + i }
@@ -76,6 +80,7 @@ impl<O: LabelOrder, B: Bank> Memory<O, B> {
     }
 
     // Copies array a, of the same length, to array x: one put for each cell, in rising order.
+    #[tactic(auto, using(crate::proofs::Reading::few_variables, crate::proofs::Copying::apart))]
     pub(crate) fn copy(&mut self, x: u8, a: u8)
         requires arrays { (HasArray (tables_of self.old) x) × (HasArray (tables_of self.old) a) }
         requires lengths { length_of (tables_of self.old).variables x ≡ length_of (tables_of self.old).variables a }
@@ -88,6 +93,7 @@ impl<O: LabelOrder, B: Bank> Memory<O, B> {
     }
 
     // What variable v holds at index i; there are these two kinds and no others, so a match decides.
+    #[tactic(auto, using(crate::proofs::Placing::there, crate::proofs::Placing::is_number, crate::proofs::Placing::is_array, crate::proofs::Placing::look_number, crate::proofs::Placing::look_array))]
     pub(crate) fn look(&mut self, v: u8, i: u32) -> u32
         requires { has_place (tables_of self.old) v i ≡ true }
         ensures value { result ≡ held (tables_of self.old) (memory_of B.cells self.old) v i }
@@ -100,6 +106,7 @@ impl<O: LabelOrder, B: Bank> Memory<O, B> {
     }
 
     // Sets variable v at index i.
+    #[tactic(auto, using(crate::proofs::Placing::there, crate::proofs::Placing::is_number, crate::proofs::Placing::is_array, crate::proofs::Placing::enter_number, crate::proofs::Placing::enter_array))]
     pub(crate) fn enter(&mut self, v: u8, i: u32, value: u32)
         requires { has_place (tables_of self.old) v i ≡ true }
         ensures { Becomes B.cells (put (tables_of self.old) (memory_of B.cells self.old) v i value) self.old self.new }

@@ -27,6 +27,7 @@ impl<O: LabelOrder, B: Bank> Session<O, B> {
     }
 
     // Why no step is taken here, if none is: the run has ended, else no step is left, else there is no room for one.
+    #[tactic(auto, using(crate::proofs::Running::run_ended, crate::proofs::Running::run_spent, crate::proofs::Running::run_full))]
     fn stop(&self, left: u64, room: usize) -> Option<Stop>
         ensures stopped { IfSome result (λ why. steps (O.meaning (order_of self.now.memory)) (tables_of self.now.memory) left room (config_of B.cells self.now) ≡ stopped why (config_of B.cells self.now)) }
         ensures goes { IfNone result ((ended (config_of B.cells self.now) ≡ false) × (0 < left) × (6 ≤ room)) }

@@ -30,6 +30,7 @@ impl Stack {
     }
 
     // Puts `next` in the place of the top and `above` over it, and takes zeros off.
+    #[tactic(auto, using(crate::proofs::StackLaws::pile_written, crate::proofs::StackLaws::pile_over, crate::proofs::StackLaws::stripped_none))]
     pub(crate) fn advance(&mut self, next: u16, above: u16)
         requires { (0 < length (pile self.old)) × ((0 < above → length (pile self.old) < 512)) }
         ensures { pile self.new ≡ stripped (above ∷ (next ∷ below_top (pile self.old))) }
@@ -44,6 +45,7 @@ impl Stack {
     }
 
     // Takes zeros off. The library takes no values from an end by a test, so this is a loop.
+    #[tactic(auto, using(crate::proofs::StackLaws::below_pile, crate::proofs::StackLaws::stripped_zero, crate::proofs::StackLaws::stripped_live, crate::proofs::StackLaws::stripped_empty))]
     fn strip(&mut self)
         ensures { pile self.new ≡ stripped (pile self.old) }
     {

@@ -1,6 +1,5 @@
 use Rattle.std.proofs.Common.{get_or, vec_items, refl, ◌∙◌, subst, arith}
 use Rattle.checker.specs.Contents.{contents}
-use Rattle.session.specs.Memories.{tables_of, order_of}
 use Rattle.session.specs.States.{state_of}
 use Rattle.compare.specs.declared.call.Call.TheVariants.{Enter}
 use Rattle.compare.specs.Calls.{call_of, Performed}
@@ -9,18 +8,13 @@ use Rattle.compare.proofs.performing.perform_all.Goals as goal
 
 pub loop-call-preserved : goal.loop-call-preserved
 loop-call-preserved g c =
-    let me = c.args.session.now in
     let inv = c.loop-call.invariant in
     let before = state_of g.B.Bank.cells c.loop-call.session in
     let after = state_of g.B.Bank.cells c.perform.new.session in
     let call = get_or c.args.calls.now c.loop-call.call-index (Enter 0 0 0 0) in
     let now = subst (λ q. Performed (g.O.LabelOrder.meaning (contents q).order) (contents q).tables (call_of call) before after (vec_items c.loop-call.tape) (vec_items c.perform.new.tape)) inv.0
-    (c.in_ok-perform.ensures.performed refl) in (
-      c.perform.ensures.program ∙ inv.0,
-      all_more (g.O.LabelOrder.meaning (order_of me.memory)) (tables_of me.memory) c.args.calls.now c.loop-call.call-index (Enter 0 0 0 0) before after _ _ _ c.loop-call-test.true now inv.1,
-    )
+    (c.in_ok-perform.ensures.performed refl) in
+    (c.perform.ensures.program ∙ inv.0, all_more _ _ c.args.calls.now c.loop-call.call-index (Enter 0 0 0 0) _ _ _ _ _ c.loop-call-test.true now inv.1)
 
 pub returns : goal.returns
-returns g c =
-    let me = c.args.session.now in
-    all_done (g.O.LabelOrder.meaning (order_of me.memory)) (tables_of me.memory) c.args.calls.now c.loop-call.call-index (state_of g.B.Bank.cells c.loop-call.session) (vec_items c.loop-call.tape) _ (omega arith) c.loop-call.invariant.1
+returns g c = all_done _ _ c.args.calls.now c.loop-call.call-index _ _ _ (omega arith) c.loop-call.invariant.1
