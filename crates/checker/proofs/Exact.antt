@@ -24,21 +24,21 @@ use Rattle.checker.proofs.Clear.{Clears, c_test, c_both, c_below, shifted}
 use Rattle.checker.proofs.Deciding.{decided, none_broken, some_broken}
 
 module _ (p : Program) where
-  a_present : (f : Form) → Decides (present p.variables f) (Present p f)
+  pub a_present : (f : Form) → Decides (present p.variables f) (Present p f)
   a_present f =
       Decides-and _ _ (a_all (λ v. ltb v (length p.variables)) (IsVariable p) (λ v. Decides-ltb v (length p.variables)) (numbers f))
       (a_all (λ v. ltb v (length p.variables)) (IsVariable p) (λ v. Decides-ltb v (length p.variables)) (arrays f))
 
-  a_kinds : (f : Form) → Decides (right_kinds p.variables f) (RightKinds p f)
+  pub a_kinds : (f : Form) → Decides (right_kinds p.variables f) (RightKinds p f)
   a_kinds f =
       Decides-and _ _ (a_all (λ v. is_number (kind_of p.variables v)) (IsNumber p) (λ v. a_number (kind_of p.variables v)) (numbers f))
       (a_all (λ v. is_array (kind_of p.variables v)) (IsArray p) (λ v. a_array (kind_of p.variables v)) (arrays f))
 
-  a_lengths : (f : Form) → Decides (same_length p.variables f) (SameLength p f)
+  pub a_lengths : (f : Form) → Decides (same_length p.variables f) (SameLength p f)
   a_lengths (Oram x a) = Decides-eqb (length_of p.variables x) (length_of p.variables a)
   a_lengths f = a_always
 
-a_links : (n k : ℕ) (r : Record) → Decides (links_fit n k r) (AllByRecursion (Rises n k) (links r))
+pub a_links : (n k : ℕ) (r : Record) → Decides (links_fit n k r) (AllByRecursion (Rises n k) (links r))
 a_links n k r = Decides-and _ _ (a_rises n k r.next) (Decides-and _ _ (a_rises n k (branches r.form).0) (a_one (a_rises n k (branches r.form).1)))
 
 module _ (L : Labels) (p : Program) where

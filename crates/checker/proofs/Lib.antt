@@ -8,6 +8,7 @@ pub mod Deciding
 pub mod Clear
 pub mod Exact
 pub mod Joint
+pub mod Blames
 pub mod Verdicts
 pub mod OnePlace
 pub mod Smallest

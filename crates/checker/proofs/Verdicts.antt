@@ -12,8 +12,10 @@ use Rattle.model.specs.declared.rule.Rule.{Rule}
 use Rattle.model.specs.Program.{Program, IsRecord}
 use Rattle.model.specs.Rules.{WellShaped, Keeps, Accepted}
 use Rattle.model.proofs.Theorem.{secrecy}
-use Rattle.rules.specs.Faults.{shape_refusal_of, rule_refusal_of, rule_number}
-use Rattle.checker.specs.Accepting.{accept_refusal, Verdict, IsMisshapen}
+use Rattle.rules.specs.Faults.{shape_number, shape_place, shape_refusal_of, rule_refusal_of, rule_number}
+use Rattle.rules.specs.declared.faults.ShapeFault.{ShapeFault}
+use Rattle.checker.specs.Accepting.{accept_refusal, Defect, Verdict, IsMisshapen}
+use Rattle.checker.proofs.Blames.{blames}
 use Rattle.checker.proofs.OnePlace.{one_place}
 use Rattle.checker.proofs.Joint.{both, map_none, either}
 use Rattle.checker.proofs.Exact.{shape_sound, shape_complete, rules_sound, rules_breach, rules_complete}
@@ -43,11 +45,15 @@ module _ (L : Labels) (W : Lawful L) (p : Program) (r : Result (Unit {0}) Refusa
       (f.rule, ap (λ (t : Refusal). t.number) t.1.2, shape_sound L p t.0, subst (IsRecord p) at n.0, λ h. n.1 (subst (λ i. Keeps L p i f.rule) (sym at) h)))
       (either shape_refusal_of rule_refusal_of _ _ _ e)
 
-  unsound : (number place : ℕ) → accept_refusal L p ≡ Some (refused_at Layer.Shape number place) → WellShaped L p → ⊥
+  defect : (number place : ℕ) → accept_refusal L p ≡ Some (refused_at Layer.Shape number place) →
+      (WellShaped L p → ⊥) × ((f : ShapeFault) × (shape_number f ≡ number) × (shape_place f ≡ place) × Defect L p f)
   unfolding accept_refusal
-  unsound number place e fits =
+  defect number place e =
       ⊎_elim
-      (λ s. let n = shape_complete L p fits in let o = s.1 in absurd cc)
+      (λ s. (
+        λ fits. let n = shape_complete L p fits in let o = s.1 in absurd cc,
+        (s.0, ap (λ (t : Refusal). t.number) s.2, ap (λ (t : Refusal). t.place) s.2, blames L p s.0 s.1),
+      ))
       (λ t. let v : Layer.Rule ≡ Layer.Shape = ap (λ (t : Refusal). t.layer) t.1.2 in absurd cc)
       (either shape_refusal_of rule_refusal_of _ _ _ e)
 
@@ -56,9 +62,9 @@ module _ (L : Labels) (W : Lawful L) (p : Program) (r : Result (Unit {0}) Refusa
       record {
         sound = λ e. let a = accepts L p (accepted _ _ _ (sym e ∙ is)).0 in (a, secrecy L W p a);
         complete = λ A. is ∙ ap (λ o. answer o tt) (clear A);
-        places = λ e k h. one_place p.records (accepts L p (accepted _ _ _ (sym e ∙ is)).0).shape.sound.linked k h.0 h.1;
+        places = λ l k h. one_place p.records l k h.0 h.1;
         breach = λ number place e. names number place (refused _ _ _ (sym e ∙ is));
       }
 
   pub misshapen : IsMisshapen L p r
-  misshapen number place e = unsound number place (refused _ _ _ (sym e ∙ is))
+  misshapen number place e = defect number place (refused _ _ _ (sym e ∙ is))
