@@ -1,9 +1,10 @@
 // Open, enter, start, run and look.
-ghost use Rattle.std.specs.Prelude.{◌≡◌, ℕ, true, length, OnOk};
+ghost use Rattle.std.specs.Prelude.{◌≡◌, ℕ, true, false, is_ok, length, OnOk};
 ghost use Rattle.refusal.specs.Answers.{answer};
 ghost use Rattle.tape.specs.Log.{overwritten};
 ghost use Rattle.checker.specs.Contents.{contents};
 ghost use Rattle.model.specs.Session.{opened, enter, start, run, look, looked, has_place};
+ghost use Rattle.model.specs.Runs.{IsRun};
 ghost use Rattle.session.specs.Memories.{tables_of, order_of};
 ghost use Rattle.session.specs.Reports.{reported};
 ghost use Rattle.session.specs.Pieces.{InPieces};
@@ -96,6 +97,7 @@ impl<O: LabelOrder, B: Bank> Session<O, B> {
         ensures answers { result ≡ answer (refusal_of O.meaning B.cells (enter party variable index value) self.old) tt }
         ensures state { state_of B.cells self.new ≡ (done O.meaning B.cells (enter party variable index value) self.old).state }
         ensures program { self.new.memory.program ≡ self.old.memory.program }
+        ensures untouched { is_ok result ≡ false → self.new ≡ self.old }
     {
         self.check_start()?;
         self.check_access(party, variable, index)?;
@@ -109,6 +111,7 @@ impl<O: LabelOrder, B: Bank> Session<O, B> {
         ensures answers { result ≡ answer (refusal_of O.meaning B.cells start self.old) tt }
         ensures state { state_of B.cells self.new ≡ (done O.meaning B.cells start self.old).state }
         ensures program { self.new.memory.program ≡ self.old.memory.program }
+        ensures untouched { is_ok result ≡ false → self.new ≡ self.old }
     {
         self.check_start()?;
         self.started = true;
@@ -121,6 +124,7 @@ impl<O: LabelOrder, B: Bank> Session<O, B> {
         ensures answers { result ≡ looked (O.meaning (order_of self.old.memory)) (tables_of self.old.memory) (state_of B.cells self.old) party variable index }
         ensures state { state_of B.cells self.new ≡ (done O.meaning B.cells (look party variable index) self.old).state }
         ensures program { self.new.memory.program ≡ self.old.memory.program }
+        ensures untouched { is_ok result ≡ false → self.new ≡ self.old }
     {
         if self.memory.too_small() {
             return Err(SessionFault::BankTooSmall);
@@ -131,12 +135,14 @@ impl<O: LabelOrder, B: Bank> Session<O, B> {
 
     // Runs for at most so many steps, and writes what they write from the beginning of the tape on; the rest of the tape
     // stays. Before each step: the program has ended, else the steps are taken, else the tape is full.
-    #[tactic(auto, using(crate::proofs::Splitting::in_pieces), unfolding(model::specs::Session::perform))]
+    #[tactic(auto, using(model::proofs::Running::is_run, crate::proofs::Splitting::in_pieces), unfolding(model::specs::Session::perform))]
     pub fn run(&mut self, steps: u64, tape: &mut [Entry]) -> Result<RunReport, SessionFault>
         ensures answers { result ≡ answer (refusal_of O.meaning B.cells (run steps (length tape.old)) self.old) (reported (ran_of O.meaning B.cells steps (length tape.old) self.old)) }
         ensures state { state_of B.cells self.new ≡ (done O.meaning B.cells (run steps (length tape.old)) self.old).state }
         ensures tape { tape.new ≡ overwritten (done O.meaning B.cells (run steps (length tape.old)) self.old).tape tape.old }
         ensures program { self.new.memory.program ≡ self.old.memory.program }
+        ensures untouched { is_ok result ≡ false → self.new ≡ self.old }
+        ensures steps { IsRun (O.meaning (order_of self.old.memory)) (tables_of self.old.memory) steps (length tape.old) (config_of B.cells self.old) (ran_of O.meaning B.cells steps (length tape.old) self.old) }
         ensures pieces { InPieces (O.meaning (order_of self.old.memory)) (tables_of self.old.memory) (config_of B.cells self.old) steps (length tape.old) }
     {
         self.check_run(tape.len())?;
