@@ -1,12 +1,13 @@
 -- What a comparison answers. Assumes nothing.
-use Rattle.std.specs.Prelude.{◌≡◌, ℕ, List, length, Some, None, Ok, Err, Option, Result}
+use Rattle.std.specs.Prelude.{◌≡◌, ℕ, cond, List, length, Some, None, Ok, Err, Option, Result, nat_lt}
 use Rattle.refusal.specs.declared.Refusal.{Refusal}
 use Rattle.tape.specs.declared.entry.Entry.{Entry}
 use Rattle.tape.specs.declared.fault.LogFault.{LogFault}
+use Rattle.tape.specs.declared.fault.LogFault.TheVariants.{Party}
 use Rattle.tape.specs.Log.{log_of, log_refusal, pick_answer}
 use Rattle.labels.specs.Labels.{Labels}
 use Rattle.model.specs.Program.{Program}
-use Rattle.model.specs.Session.{Call, opened, after}
+use Rattle.model.specs.Session.{Call, opened}
 use Rattle.model.specs.Secrecy.{log, StartAlike, SecretBetween}
 use Rattle.checker.specs.Accepting.{accept_refusal}
 use Rattle.compare.specs.declared.fault.CompareFault.{CompareFault}
@@ -30,9 +31,14 @@ by_accept None r = r
 abbrev pub picked_log : Labels → ℕ → List Entry → Result (List Entry) CompareFault
 picked_log L q tape = by_pick (pick_answer L q tape (length tape)) (log_of L q tape)
 
--- the log of a session of the program after some calls, over a bank that had these cells; or why there is none
+-- a party's log, if there is such a party
+abbrev pub for_party : Labels → ℕ → List Entry → Result (List Entry) CompareFault
+for_party L q es = cond (nat_lt q L.parties) (Ok es) (Err (Refused (log_refusal (Party q))))
+
+-- the log of a session of the program after some calls, over a bank that had these cells; none where the program is not
+-- accepted or there is no such party
 abbrev pub logged : Labels → Program → ℕ → List Call → List ℕ → Result (List Entry) CompareFault
-logged L p q cs cells = by_accept (accept_refusal L p) (picked_log L q (after L p cs (opened p cells)).tape)
+logged L p q cs cells = by_accept (accept_refusal L p) (for_party L q (log L p q cs (opened p cells)))
 
 -- both logs, or the first fault
 abbrev pub both : Result (List Entry) CompareFault → Result (List Entry) CompareFault → Result (List Entry × List Entry) CompareFault
