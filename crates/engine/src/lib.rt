@@ -16,6 +16,8 @@ mod answers;
 mod fault;
 mod playing;
 mod rows;
+#[cfg(test)]
+mod tests;
 
 use answers::{row, told};
 use banks::{FlatBank, ShareBank};
