@@ -16,7 +16,6 @@ impl<O: LabelOrder, B: Bank> Memory<O, B> {
     }
 
     // The number that is variable v.
-    #[tactic(auto, using(crate::proofs::Reading::held_number))]
     pub(crate) fn number(&self, v: u8) -> u32
         requires { HasNumber (tables_of self.now) v }
         ensures { result ≡ held (tables_of self.now) (memory_of B.cells self.now) v 0 }
@@ -25,7 +24,6 @@ impl<O: LabelOrder, B: Bank> Memory<O, B> {
     }
 
     // Sets the number that is variable v.
-    #[tactic(auto, using(crate::proofs::Reading::put_number))]
     pub(crate) fn set_number(&mut self, v: u8, value: u32)
         requires { HasNumber (tables_of self.old) v }
         ensures { Becomes B.cells (put (tables_of self.old) (memory_of B.cells self.old) v 0 value) self.old self.new }
