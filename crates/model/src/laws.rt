@@ -1,4 +1,5 @@
-// Laws of the machine, in other words than its definitions. Each function answers 0 and carries its law.
+// Laws of the machine, in other words than its definitions. Each function carries one: its contract is the theorem, and what it
+// answers means nothing.
 ghost use Rattle.std.specs.Prelude.{◌≤◌, length};
 ghost use Rattle.labels.specs.Labels.{Labels, Lawful};
 ghost use Rattle.model.specs.Program.{Program};

@@ -22,7 +22,8 @@ pub use place::Place;
 pub use rule::Rule;
 pub use stop::Stop;
 
-// Two sessions of an accepted program, whatever was entered and called, tell a party no more than it was released.
+// Two sessions of an accepted program, whatever was entered and called, tell a party no more than it was released. As with
+// the laws, the contract is the theorem, and the answer means nothing.
 pub fn secrecy_holds() -> u8
     ensures { (L : Labels) → Lawful L → (p : Program) → Accepted L p → Secrecy L p }
 {

@@ -8,7 +8,5 @@ mod typing;
 
 pub use faults::{RuleFault, ShapeFault};
 pub use operands::Labelled;
-pub use shape::{
-    branches, check_record, links_fit, present, record_at, right_kinds, same_length, variable_at,
-};
-pub use typing::{around, broken_rule, label_operands, label_read};
+pub use shape::{branches, check_record, record_at, variable_at};
+pub use typing::{around, broken_rule, label_operands};

@@ -68,21 +68,21 @@ fn all_pass<N: Fn(u8) -> bool, A: Fn(u8) -> bool>(form: Form, number: N, array: 
 }
 
 // 22: all variables of a form exist.
-pub fn present(vs: &[Variable], form: Form) -> bool
+fn present(vs: &[Variable], form: Form) -> bool
     ensures { result ≡ present vs.now form }
 {
     all_pass(form, |v| has(vs, v), |v| has(vs, v))
 }
 
 // 23: each is of the right kind.
-pub fn right_kinds(vs: &[Variable], form: Form) -> bool
+fn right_kinds(vs: &[Variable], form: Form) -> bool
     ensures { result ≡ right_kinds vs.now form }
 {
     all_pass(form, |v| is_number(vs, v), |v| is_array(vs, v))
 }
 
 // 27: oram's arrays have one length.
-pub fn same_length(vs: &[Variable], form: Form) -> bool
+fn same_length(vs: &[Variable], form: Form) -> bool
     ensures { result ≡ same_length vs.now form }
 {
     match form {
@@ -108,7 +108,7 @@ fn link_fits(link: u16, k: usize, n: usize) -> bool
 }
 
 // 24: the links of record k, of n.
-pub fn links_fit(entry: Record, k: usize, n: usize) -> bool
+fn links_fit(entry: Record, k: usize, n: usize) -> bool
     ensures { result ≡ links_fit n k entry }
 {
     let (first, second) = branches(entry.form);

@@ -51,7 +51,7 @@ pub fn label_operands(vs: &[Variable], s: u8, l: u8, form: Form) -> Labelled
 }
 
 // The join of all labels that a record of forms 1 to 6 reads, by the number of the form as in the rules.
-pub fn label_read<O: LabelOrder>(order: &O, r: Labelled) -> u8
+fn label_read<O: LabelOrder>(order: &O, r: Labelled) -> u8
     ensures { result ≡ join_all (O.meaning order.now) (labels_read r) }
 {
     match r.form {
