@@ -1,8 +1,8 @@
-pub mod Tests
+pub mod Counting
 pub mod Walks
 pub mod Reaches
 pub mod Firsts
-pub mod Surroundings
+pub mod Places
 pub mod Decided
 pub mod Deciding
 pub mod Clear

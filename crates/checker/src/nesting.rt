@@ -42,7 +42,7 @@ impl<'a> Nested<'a> {
     }
 
     // Refuses record k, from 1, by the lowest rule that it breaks.
-    #[tactic(auto, using(crate::proofs::Surroundings::place_in, crate::proofs::Surroundings::long_nested), unfolding(crate::specs::Breaches::rule_refusal, crate::specs::Breaches::labelled_at))]
+    #[tactic(auto, using(crate::proofs::Places::place_in, crate::proofs::Places::long_nested), unfolding(crate::specs::Breaches::rule_refusal, crate::specs::Breaches::labelled_at))]
     fn check_rule<O: LabelOrder>(&self, order: &O, k: usize) -> Result<(), RuleFault>
         requires { (1 ≤ k) × (k ≤ length self.now.tables.now.records.items) }
         ensures { result ≡ answer (rule_refusal (O.meaning order.now) (tables_in self.now.tables.now) k) tt }

@@ -44,7 +44,7 @@ impl Tables {
             .map_or(Ok(()), |v| Err(ShapeFault::VariableLabel(v)))
     }
 
-    #[tactic(auto, using(refusal::proofs::First::first_clear, refusal::proofs::First::first_stop, crate::proofs::Tests::entry), unfolding(crate::specs::Checks::records_refusal))]
+    #[tactic(auto, using(refusal::proofs::First::first_clear, refusal::proofs::First::first_stop, crate::proofs::Counting::entry), unfolding(crate::specs::Checks::records_refusal))]
     fn check_records<O: LabelOrder>(&self, order: &O) -> Result<(), ShapeFault>
         ensures { result ≡ answer (records_refusal (O.meaning order.now) self.now.variables.items self.now.records.items (length self.now.records.items)) tt }
     {
@@ -56,7 +56,7 @@ impl Tables {
     }
 
     // How often each record is linked, by its number, in one pass over the records.
-    #[tactic(auto, using(crate::proofs::Tests::times_more, crate::proofs::Tests::few_links, std::proofs::lemmas::List::take_all), unfolding(model::specs::Nesting::times_linked))]
+    #[tactic(auto, using(crate::proofs::Counting::times_more, crate::proofs::Counting::few_links, std::proofs::lemmas::List::take_all), unfolding(model::specs::Nesting::times_linked))]
     fn count_links(&self) -> [u16; 513]
         ensures { (k : ℕ) → k < length result → slice_index result k ≡ times_linked self.now.records.items k }
     {

@@ -9,7 +9,7 @@ use Rattle.model.specs.Nesting.{place}
 use Rattle.rules.specs.declared.faults.ShapeFault.TheVariants.{Depth}
 use Rattle.checker.specs.Checks.{depth_refusal}
 use Rattle.checker.specs.Walking.{nested}
-use Rattle.checker.proofs.Surroundings.{long_nested, place_in}
+use Rattle.checker.proofs.Places.{long_nested, place_in}
 use Rattle.checker.proofs.Firsts.{Found, first_at, told}
 use Rattle.checker.proofs.nested.Nested.check_depth.Goals as goal
 

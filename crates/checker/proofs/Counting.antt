@@ -1,9 +1,10 @@
--- Tests of each index in turn, and what it means that all passed. Assumes nothing.
-use Rattle.std.proofs.Common.{◌≡◌, ℕ, ◌+◌, ◌<◌, ◌≤◌, Bool, true, false, cond, eqb, List, [], length, get_or, take, sym, ap, ◌∙◌, arith}
+-- The records by their index, and their links counted. Assumes nothing.
+use Rattle.std.proofs.Common.{◌≡◌, ℕ, ◌+◌, ◌<◌, ◌≤◌, List, [], length, get_or, take, sym, ap, ◌∙◌, arith}
 use Rattle.std.specs.List.{flat_map}
+use Rattle.std.proofs.lemmas.Bool.Decides.{nat_tests}
 use Rattle.std.proofs.lemmas.List.{take_more, flat_map_more}
 use Rattle.sheet.specs.declared.tables.Record.{Record}
-use Rattle.model.specs.Nesting.{count, links, branches, skip, record_at}
+use Rattle.model.specs.Nesting.{count, links, skip, record_at}
 use Rattle.model.proofs.Linkers.{at_index}
 use Rattle.model.proofs.Counts.{count_append}
 
@@ -18,8 +19,4 @@ times_more rs k j h =
 
 -- a record has three links
 pub few_links : (k : ℕ) (r : Record) → count k (links r) ≤ 3
-few_links k r = omega (arith, one (eqb r.next k), one (eqb (branches r.form).0 k), one (eqb (branches r.form).1 k))
-  where
-    one : (b : Bool) → cond b 1 0 ≤ 1
-    one true = omega arith
-    one false = omega arith
+few_links k r = grind (arith, nat_tests)
