@@ -1,5 +1,6 @@
 /* The engine as a static library, under the two-party order: Alice is party 0, Bob party 1; labels P 0, A 1, B 2, O 3.
- * `rt lib` in crates/engine writes crates/engine/out/libengine.a; link c/liblibc_c.a of the kit beside it.
+ * `rt lib` in crates/engine writes crates/engine/out/libengine.a; link c/liblibc_c.a of the kit behind it:
+ *   cc host.c -I bench crates/engine/out/libengine.a "$(dirname "$(rt doc)")/c/liblibc_c.a"
  * A slice is a pointer and the number of its elements. Every pointer must be aligned and valid for its length (not null,
  * also where the length is 0), and slices that are written must overlap no other. */
 #ifndef MAZGRUT_H
@@ -7,6 +8,10 @@
 
 #include <stddef.h>
 #include <stdint.h>
+
+#ifdef __cplusplus
+extern "C" {
+#endif
 
 /* An entry of a tape or a log. */
 typedef struct {
@@ -40,13 +45,18 @@ mazgrut_answer mazgrut_check(const uint8_t *sheet, size_t sheet_len);
 mazgrut_answer mazgrut_pick(uint8_t party, const mazgrut_entry *tape, size_t tape_len, mazgrut_entry *out, size_t out_len);
 
 /* Accepts the sheet, opens a session over a bank of so many words, all 0, and plays the calls on it. The tape is lent to
- * each run, which writes over its front. Answer k is that of call k. The result is the verdict on the sheet; where it is
- * a refusal, tape and answers are untouched. */
+ * each run, which writes over its front. Answer k is that of call k. The result is layer 7 where there is no memory for
+ * the bank; else layer 9 where there are fewer answers than calls; else the verdict on the sheet. Where its layer is not
+ * 0, nothing is played, and tape and answers are untouched. */
 mazgrut_answer mazgrut_play_flat(const uint8_t *sheet, size_t sheet_len, size_t words, const mazgrut_call *calls,
                                  size_t calls_len, mazgrut_entry *tape, size_t tape_len, mazgrut_answer *answers,
                                  size_t answers_len);
 mazgrut_answer mazgrut_play_share(const uint8_t *sheet, size_t sheet_len, size_t words, uint32_t pad,
                                   const mazgrut_call *calls, size_t calls_len, mazgrut_entry *tape, size_t tape_len,
                                   mazgrut_answer *answers, size_t answers_len);
+
+#ifdef __cplusplus
+}
+#endif
 
 #endif

@@ -1,5 +1,5 @@
 #!/usr/bin/env python3
-"""Brings the repository's own names in specs/ and proofs/ to today's spelling, after port.py has run.
+"""Brings the repository's own names in specs/ and proofs/ to today's spelling, after the kit's port.py has run.
 
     python3 tools/respell.py [--check]      at the top of the repository
 

@@ -220,11 +220,15 @@ fn time_pick() {
     tell("pick over 10^6 entries, random kind and label", tape.len() as u64, "entry", times);
 }
 
-fn main() {
-    let cases = std::env::args().nth(1).and_then(|n| n.parse().ok()).unwrap_or(200_000);
+fn main() -> Result<(), String> {
+    let cases = match std::env::args().nth(1) {
+        None => 200_000,
+        Some(text) => text.parse().map_err(|e| format!("CASES {text}: {e}"))?,
+    };
     compare_all(cases);
     time_check();
     time_open();
     time_run();
     time_pick();
+    Ok(())
 }
