@@ -1,5 +1,5 @@
 -- Bytes written as pairs of hexadecimal digits. Assumes nothing.
-use Rattle.std.specs.Prelude.{ℕ, ◌+◌, ◌-◌, ◌*◌, cond, ◌&&◌, List, [], ◌∷◌, Some, None, Option, nat_le}
+use Rattle.std.specs.Prelude.{ℕ, ◌+◌, ◌-◌, ◌*◌, ◌/◌, ◌%◌, cond, ◌&&◌, List, [], ◌∷◌, Some, None, Option, nat_le, nat_lt}
 
 -- 0 to 9, a to f, A to F
 abbrev pub digit : ℕ → Option ℕ
@@ -25,3 +25,12 @@ abbrev pub bytes_of : List ℕ → Option (List ℕ)
 bytes_of [] = Some []
 bytes_of (a ∷ []) = None
 bytes_of (a ∷ (b ∷ text)) = before (byte_of (digit a) (digit b)) (bytes_of text)
+
+-- a digit's character, and the text that spells some bytes
+
+abbrev pub character : ℕ → ℕ
+character d = cond (nat_lt d 10) (48 + d) (87 + d)
+
+abbrev pub spelled : List ℕ → List ℕ
+spelled [] = []
+spelled (b ∷ bs) = character (b / 16) ∷ character (b % 16) ∷ spelled bs

@@ -1,9 +1,10 @@
 // Bytes from their hexadecimal digits.
 #![tactic(auto)]
 
-ghost use Rattle.std.specs.Prelude.{◌≡◌, ◌<◌, IfSome, IfOk, vec_items};
+ghost use Rattle.std.specs.Prelude.{◌≡◌, ◌<◌, ℕ, List, Some, IfSome, IfOk, vec_items};
+ghost use Rattle.std.specs.List.{AllByRecursion};
 ghost use Rattle.std.specs.Option.{option_map};
-ghost use Rattle.hex_text.specs.Digits.{digit, byte_of, bytes_of};
+ghost use Rattle.hex_text.specs.Digits.{digit, byte_of, bytes_of, spelled};
 
 use std::alloc::{AllocError, Global};
 
@@ -48,9 +49,10 @@ fn bytes_of(heap: Global, text: &[u8]) -> Result<Option<Vec<u8>>, AllocError>
 }
 
 // The bytes that a text of digits spells; none where a character is no digit or one is left over.
-#[tactic(auto, using(crate::proofs::Pairs::odd))]
+#[tactic(auto, using(crate::proofs::Pairs::odd, crate::proofs::Spelling::read_back))]
 pub fn decode(heap: Global, text: &[u8]) -> Result<Option<Vec<u8>>, AllocError>
-    ensures { IfOk result (λ bytes. option_map vec_items bytes ≡ bytes_of text.now) }
+    ensures value { IfOk result (λ bytes. option_map vec_items bytes ≡ bytes_of text.now) }
+    ensures back { (bytes : List ℕ) → AllByRecursion (λ b. b < 256) bytes → bytes_of (spelled bytes) ≡ Some bytes }
 {
     if text.len() % 2 != 0 {
         return Ok(None);
