@@ -8,6 +8,14 @@ pub struct Line<'a> {
     pub numbers: Vec<u32>,
 }
 
+// `parse` would take a sign.
+fn parse_number(text: &str) -> Result<u32, Fault> {
+    if text.starts_with('+') {
+        return Err(Fault::Unreadable);
+    }
+    Ok(text.parse::<u32>()?)
+}
+
 impl<'a> Line<'a> {
     pub fn parse(heap: Global, bytes: &'a [u8]) -> Result<Line<'a>, Fault> {
         let text = std::str::from_utf8(bytes)?;
@@ -19,7 +27,7 @@ impl<'a> Line<'a> {
             });
         };
         for number in rest.split(' ') {
-            numbers.push(number.parse::<u32>()?)?;
+            numbers.push(parse_number(number)?)?;
         }
         Ok(Line { word, numbers })
     }

@@ -18,9 +18,10 @@ pub fn each<T: Into<u64>, F: Fn(u8, u8) -> T>(
     let [label, others @ ..] = numbers else {
         return Err(Fault::Unreadable);
     };
+    let label = u8::try_from(*label)?;
     let mut told = Vec::new(heap);
     for other in others {
-        told.push(ask(u8::try_from(*label)?, u8::try_from(*other)?).into())?;
+        told.push(ask(label, u8::try_from(*other)?).into())?;
     }
     Ok(Answer::Numbers(word, told))
 }

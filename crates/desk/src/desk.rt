@@ -57,13 +57,14 @@ fn widen(room: &mut Vec<Entry>, length: usize) -> Result<(), Fault>
     Ok(())
 }
 
-// What was written over the front of the buffer.
+// What was written over the front of the buffer. No call writes more than there is room for, so the clip cuts nothing;
+// it spares the callers to prove that.
 fn front(room: &[Entry], count: usize) -> &[Entry] {
     &room[..count.min(room.len())]
 }
 
 // Prints entries, a line each.
-fn tell<W: Write>(out: &mut W, entries: &[Entry]) -> io::Result<()> {
+fn print_entries<W: Write>(out: &mut W, entries: &[Entry]) -> io::Result<()> {
     for entry in entries {
         writeln!(out, "{entry}")?;
     }
@@ -107,7 +108,7 @@ impl<W: Write> Desk<W> {
             return Ok(());
         }
         if let Some(waiting) = self.waiting {
-            return self.give(text, waiting);
+            return self.take_entry(text, waiting);
         }
         let command = parse_line(text).ok_or(Fault::Unreadable(self.line))?;
         self.perform(command)
@@ -143,7 +144,7 @@ impl<W: Write> Desk<W> {
                 party,
                 buffer,
                 count,
-            } => self.wait(Waiting {
+            } => self.wait_for_entries(Waiting {
                 party,
                 buffer,
                 count,
@@ -228,13 +229,14 @@ impl<W: Write> Desk<W> {
     }
 
     fn run(&mut self, steps: u64, tape: usize) -> Result<(), Fault> {
+        // Not `session()`, which would borrow the room and the output too.
         let session = self.session.as_mut().ok_or(Fault::NoSession)?;
         widen(&mut self.room, tape)?;
         let report = session.run(steps, &mut self.room[..tape])?;
         let (taken, count, stop) = (report.steps, report.entries, report.stop);
         writeln!(self.out, "ran {taken} {count} {stop}")?;
         let written = front(&self.room, count);
-        tell(&mut self.out, written)?;
+        print_entries(&mut self.out, written)?;
         self.tape.extend_from_slice(written)?;
         Ok(())
     }
@@ -253,38 +255,57 @@ impl<W: Write> Desk<W> {
         let log = front(&self.room, count);
         let state = if is_closed(log) { "closed" } else { "open" };
         writeln!(self.out, "log {count} {state}")?;
-        tell(&mut self.out, log)?;
+        print_entries(&mut self.out, log)?;
         Ok(())
     }
 
-    // Waits for the entries of a pick.
-    fn wait(&mut self, waiting: Waiting) -> Result<(), Fault> {
+    // Waits for the entries of a pick, if there are any to come.
+    fn wait_for_entries(&mut self, waiting: Waiting) -> Result<(), Fault> {
         self.given.clear();
         if waiting.count == 0 {
-            return self.picked(waiting);
+            return self.finish_pick(waiting);
         }
         self.waiting = Some(waiting);
         Ok(())
     }
 
     // One entry of a pick.
-    fn give(&mut self, text: &str, waiting: Waiting) -> Result<(), Fault> {
+    fn take_entry(&mut self, text: &str, waiting: Waiting) -> Result<(), Fault> {
         let entry = parse_entry(text).ok_or(Fault::Unreadable(self.line))?;
         self.given.push(entry)?;
         if self.given.len() < waiting.count {
             return Ok(());
         }
         self.waiting = None;
-        self.picked(waiting)
+        self.finish_pick(waiting)
     }
 
-    fn picked(&mut self, waiting: Waiting) -> Result<(), Fault> {
+    // A pick that has its entries.
+    fn finish_pick(&mut self, waiting: Waiting) -> Result<(), Fault> {
         let order = self.order()?;
         let buffer = waiting.buffer;
         widen(&mut self.room, buffer)?;
         let count = pick(&order, waiting.party, &self.given, &mut self.room[..buffer])?;
         writeln!(self.out, "picked {count}")?;
-        tell(&mut self.out, front(&self.room, count))?;
+        print_entries(&mut self.out, front(&self.room, count))?;
+        Ok(())
+    }
+}
+
+#[cfg(test)]
+mod tests {
+    use super::*;
+    use std::test::Fail;
+
+    // What is answered before the first order; the stored script begins with one.
+    #[test]
+    fn no_order(rt: HostRuntime) -> Result<(), Fail> {
+        let mut desk = Desk::new(rt.alloc(), Vec::new(rt.alloc()));
+        for line in ["sheet -", "pick 0 0 0", "open", "log 0"] {
+            desk.play(line.as_bytes())?;
+        }
+        let told = std::str::from_utf8(desk.out.as_slice())?;
+        assert_eq!(rt; told, "no order\nno order\nnothing to open\nno session\n");
         Ok(())
     }
 }

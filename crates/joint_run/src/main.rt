@@ -1,5 +1,5 @@
-// One ticket from start to finish: a drive maker's margins and a plant's recording are joined by a secret program, and
-// what each party could observe is printed; then the same with other recordings, compared.
+// One ticket from start to finish: a drive maker's margins and a plant's recording are joined under the secret label,
+// and what each party could observe is printed; then the same with other recordings, compared.
 #![tactic(auto)]
 
 mod play;

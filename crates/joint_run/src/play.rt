@@ -1,5 +1,7 @@
 // Playing the task from start to finish, and what there is to tell of it.
-use crate::task::{DRIVE_COUNT, DRIVES, FRAME_COUNT, MARGINS, RECORDS, SLACKS, variables};
+use crate::task::{
+    CELL_COUNT, DRIVE_COUNT, DRIVES, FRAME_COUNT, MARGINS, RECORDS, SLACKS, variables,
+};
 use anyhow::anyhow;
 use banks::{FlatBank, ShareBank};
 use checker::{Program, accept};
@@ -11,20 +13,22 @@ use sheet::{ReadSheet, lay_out};
 use std::alloc::Global;
 use tape::{BLANK, Entry, pick};
 
-pub const MAKER: u8 = 0;
+// The parties.
+const MAKER: u8 = 0;
 
-pub const PLANT: u8 = 1;
+const PLANT: u8 = 1;
 
-// The words of a bank for the 14 cells of the arrays: two a cell in a share bank, one in a flat one.
-const SHARES: usize = 28;
+// The words of a bank for the cells of the arrays: two a cell in a share bank, one in a flat one.
+const SHARE_WORDS: usize = 2 * CELL_COUNT;
 
-const CELLS: usize = 14;
+const FLAT_WORDS: usize = CELL_COUNT;
 
 // The tape that a run is given, and the steps that it may take.
 const TAPE: usize = 24;
 
 const STEPS: u64 = 9;
 
+// The runs in which the program has to end.
 const PIECES: usize = 100;
 
 // How much each drive stands.
@@ -143,10 +147,10 @@ fn run_all(
         let report = run_piece(session, joined)?;
         pieces.push(report)?;
         if report.stop == Stop::Ended {
-            break;
+            return Ok(pieces);
         }
     }
-    Ok(pieces)
+    Err(anyhow!("the program has not ended after {PIECES} runs"))
 }
 
 // A party's log of the joined tape.
@@ -173,8 +177,8 @@ fn calls(heap: Global, recording: &Recording) -> anyhow::Result<Vec<Call>> {
 
 // The maker's logs of two sessions: with the first recording over a share bank, and with another over a flat one.
 fn compare_with(heap: Global, sheet: &ReadSheet, recording: &Recording) -> anyhow::Result<Logs> {
-    let shares = ShareBank::new(vec![in heap; 0u32; SHARES]?, 1);
-    let cells = FlatBank::new(vec![in heap; 7u32; CELLS]?);
+    let shares = ShareBank::new(vec![in heap; 0u32; SHARE_WORDS]?, 1);
+    let cells = FlatBank::new(vec![in heap; 7u32; FLAT_WORDS]?);
     let ours = calls(heap, &FIRST)?;
     let theirs = calls(heap, recording)?;
     compare(sheet, &TwoParty, MAKER, shares, &ours, cells, &theirs, heap).map_err(|_| anyhow!(
@@ -190,7 +194,7 @@ fn play_sheet(heap: Global, bytes: &[u8]) -> anyhow::Result<Told> {
         .map_err(|_| anyhow!("the sheet was refused"))?;
     let mut program = Program::new(TwoParty);
     accept(&sheet, &TwoParty, &mut program).map_err(|_| anyhow!("the program was refused"))?;
-    let bank = ShareBank::new(vec![in heap; 0u32; SHARES]?, 1);
+    let bank = ShareBank::new(vec![in heap; 0u32; SHARE_WORDS]?, 1);
     let mut session = Session::open(program, bank);
     enter_all(&mut session, &margins(heap)?, "a margin was refused")?;
     enter_all(&mut session, &frames(heap, &FIRST)?, "a frame was refused")?;
@@ -220,8 +224,8 @@ pub fn play(heap: Global) -> anyhow::Result<Told> {
     let length = lay_out(&variables(), &RECORDS, &mut buffer).map_err(|_| anyhow!(
         "the tables have no sheet"
     ))?;
-    if length > 512 {
-        return Err(anyhow!("the sheet is too long"));
-    }
-    play_sheet(heap, &buffer[0..length])
+    let bytes = buffer
+        .get(..length)
+        .ok_or_else(|| anyhow!("the sheet is too long"))?;
+    play_sheet(heap, bytes)
 }

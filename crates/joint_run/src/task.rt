@@ -4,9 +4,9 @@ use sheet::{Form, Kind, Op, Record, Variable};
 // Labels of the two-party order: the maker is Alice, party 0; the plant is Bob, party 1.
 const PUBLIC: u8 = 0;
 
-const MAKER: u8 = 1;
+const MAKER_LABEL: u8 = 1;
 
-const PLANT: u8 = 2;
+const PLANT_LABEL: u8 = 2;
 
 const SECRET: u8 = 3;
 
@@ -56,6 +56,9 @@ pub const DRIVE_COUNT: usize = 4;
 
 pub const FRAME_COUNT: usize = 3;
 
+// The cells of all arrays: margins and table, drives and slacks.
+pub const CELL_COUNT: usize = 2 * DRIVE_COUNT + 2 * FRAME_COUNT;
+
 fn number(label: u8) -> Variable {
     Variable {
         label,
@@ -73,17 +76,17 @@ fn array(label: u8, cells: u16) -> Variable {
 // The variables, in the order of their numbers.
 pub fn variables() -> [Variable; 20] {
     [
-        array(MAKER, 4),
-        array(PLANT, 3),
-        array(PLANT, 3),
-        array(SECRET, 4),
+        array(MAKER_LABEL, DRIVE_COUNT as u16),
+        array(PLANT_LABEL, FRAME_COUNT as u16),
+        array(PLANT_LABEL, FRAME_COUNT as u16),
+        array(SECRET, DRIVE_COUNT as u16),
         number(PUBLIC),
         number(PUBLIC),
         number(PUBLIC),
         number(PUBLIC),
         number(PUBLIC),
-        number(PLANT),
-        number(PLANT),
+        number(PLANT_LABEL),
+        number(PLANT_LABEL),
         number(SECRET),
         number(SECRET),
         number(SECRET),
@@ -92,7 +95,7 @@ pub fn variables() -> [Variable; 20] {
         number(SECRET),
         number(SECRET),
         number(PUBLIC),
-        number(PLANT),
+        number(PLANT_LABEL),
     ]
 }
 
@@ -110,7 +113,7 @@ pub const RECORDS: [Record; 19] = [
         next: 3,
         form: Form::Constant {
             x: FRAMES,
-            value: 3,
+            value: FRAME_COUNT as u32,
         },
     },
     Record {
@@ -137,7 +140,7 @@ pub const RECORDS: [Record; 19] = [
         form: Form::While { a: MORE, body: 6 },
     },
     Record {
-        label: PLANT,
+        label: PLANT_LABEL,
         next: 7,
         form: Form::Fetch {
             x: DRIVE,
@@ -146,7 +149,7 @@ pub const RECORDS: [Record; 19] = [
         },
     },
     Record {
-        label: PLANT,
+        label: PLANT_LABEL,
         next: 8,
         form: Form::Fetch {
             x: SLACK,

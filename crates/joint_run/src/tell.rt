@@ -50,23 +50,48 @@ fn print_log(rt: &impl Print, who: &str, log: &[Entry]) -> anyhow::Result<()> {
     Ok(())
 }
 
-// The first place where two entries are not the same.
-fn first_difference(first: &[Entry], second: &[Entry]) -> Option<usize> {
-    first.iter().zip(second.iter()).position(|(a, b)| *a != *b)
+// How two logs stand to each other.
+#[derive(Clone, Copy, Debug, PartialEq, Eq)]
+enum Comparison {
+    Equal,
+    // The one ends where the other goes on.
+    Beginning { shorter: usize, longer: usize },
+    // The first place where two entries are not the same.
+    Differ(usize),
+}
+
+fn compare_logs(first: &[Entry], second: &[Entry]) -> Comparison {
+    let (one, other) = (first.len(), second.len());
+    match first.iter().zip(second).position(|(a, b)| *a != *b) {
+        Some(place) => Comparison::Differ(place),
+        None if one == other => Comparison::Equal,
+        None => Comparison::Beginning {
+            shorter: one.min(other),
+            longer: one.max(other),
+        },
+    }
 }
 
 // Where two logs of the maker part, if they do.
 fn print_comparison(rt: &impl Print, what: &str, logs: &Logs) -> anyhow::Result<()> {
     let (first, second) = (logs.first.as_slice(), logs.second.as_slice());
-    let Some(i) = first_difference(first, second) else {
-        let (a, b) = (first.len(), second.len());
-        println!(rt; "With {what} the logs of the maker, {a} and {b} entries, do not differ.")?;
-        return Ok(());
-    };
-    println!(rt; "With {what} the logs of the maker first differ at entry {i}:")?;
-    for entry in first.get(i).into_iter().chain(second.get(i)) {
-        let line = Line(*entry);
-        println!(rt; "  {line}")?;
+    match compare_logs(first, second) {
+        Comparison::Equal => {
+            let (a, b) = (first.len(), second.len());
+            println!(rt; "With {what} the logs of the maker, {a} and {b} entries, do not differ.")?;
+        }
+        Comparison::Beginning { shorter, longer } => {
+            println!(rt;
+                "With {what} the maker's log of {shorter} entries is a beginning of that of {longer}."
+            )?;
+        }
+        Comparison::Differ(i) => {
+            println!(rt; "With {what} the logs of the maker first differ at entry {i}:")?;
+            for entry in first.get(i).into_iter().chain(second.get(i)) {
+                let line = Line(*entry);
+                println!(rt; "  {line}")?;
+            }
+        }
     }
     Ok(())
 }
@@ -88,5 +113,26 @@ impl Told {
         print_log(rt, "plant", &self.plant)?;
         print_comparison(rt, "another recording", &self.other)?;
         print_comparison(rt, "a third recording", &self.third)
+    }
+}
+
+#[cfg(test)]
+mod tests {
+    use super::*;
+    use tape::BLANK;
+
+    #[test]
+    fn compares_logs(rt: HostRuntime) {
+        let mut end = BLANK;
+        end.kind = 8;
+        let log = [BLANK, BLANK, end];
+        let beginning = Comparison::Beginning {
+            shorter: 2,
+            longer: 3,
+        };
+        assert_eq!(rt; compare_logs(&log, &log), Comparison::Equal);
+        assert_eq!(rt; compare_logs(&log, &log[..2]), beginning);
+        assert_eq!(rt; compare_logs(&log[..2], &log), beginning);
+        assert_eq!(rt; compare_logs(&log, &[BLANK, end]), Comparison::Differ(1));
     }
 }
