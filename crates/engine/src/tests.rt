@@ -22,7 +22,12 @@ const fn call(call: u8, index: u32, value: u32) -> CallRow {
 
 // Enter 7 at the index, start, run, and look there.
 const fn calls(index: u32) -> [CallRow; 4] {
-    [call(0, index, 7), call(1, 0, 0), call(2, 0, 0), call(3, index, 0)]
+    [
+        call(0, index, 7),
+        call(1, 0, 0),
+        call(2, 0, 0),
+        call(3, index, 0),
+    ]
 }
 
 // The program has ended after one step, which wrote end alone, and the value is there.
