@@ -6,11 +6,13 @@ ghost use Rattle.banks.specs.Shares.{joined_cells};
 ghost use Rattle.labels.specs.Orders.{two_party};
 ghost use Rattle.tape.specs.Log.{pick_answer, pick_buffer};
 ghost use Rattle.model.specs.Rules.{Accepted};
+ghost use Rattle.model.specs.Session.{opened};
 ghost use Rattle.model.specs.Secrecy.{Secrecy};
 ghost use Rattle.checker.specs.Accepting.{sheet_program};
 ghost use Rattle.verdict.specs.Verdicts.{checked};
 ghost use Rattle.engine.specs.Rows.{check_row, pick_row, OrMemory};
 ghost use Rattle.engine.specs.Playing.{play_row, play_over};
+ghost use Rattle.engine.specs.Following.{PlayFollows};
 
 mod answers;
 mod fault;
@@ -67,6 +69,7 @@ pub extern "C" fn mazgrut_play_flat(
     ensures answer { OrMemory result (play_row sheet.now calls.now answers.old) }
     ensures tape { tape.new ≡ (play_over result sheet.now (replicate words 0) calls.now tape.old answers.old).tape }
     ensures answers { answers.new ≡ (play_over result sheet.now (replicate words 0) calls.now tape.old answers.old).answers }
+    ensures follows { PlayFollows two_party (sheet_program sheet.now) calls.now (opened (sheet_program sheet.now) (replicate words 0)) tape.old answers.old }
 {
     match vec![in heap; 0u32; words] {
         Ok(zeros) => row(play(sheet, FlatBank::new(zeros), calls, tape, answers)),
@@ -88,6 +91,7 @@ pub extern "C" fn mazgrut_play_share(
     ensures answer { OrMemory result (play_row sheet.now calls.now answers.old) }
     ensures tape { tape.new ≡ (play_over result sheet.now (joined_cells (replicate words 0)) calls.now tape.old answers.old).tape }
     ensures answers { answers.new ≡ (play_over result sheet.now (joined_cells (replicate words 0)) calls.now tape.old answers.old).answers }
+    ensures follows { PlayFollows two_party (sheet_program sheet.now) calls.now (opened (sheet_program sheet.now) (joined_cells (replicate words 0))) tape.old answers.old }
 {
     match vec![in heap; 0u32; words] {
         Ok(zeros) => row(play(sheet, ShareBank::new(zeros, pad), calls, tape, answers)),
