@@ -1,5 +1,5 @@
 #!/usr/bin/env python3
-"""Lists the places in crates/*/src that docs/DESIGN-PASS.md counts.
+"""Lists the places in crates/*/src that docs/history/DESIGN-PASS.md counts.
 
     python3 tools/places.py [TREE] [POINT..]
 
