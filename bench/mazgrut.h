@@ -13,11 +13,11 @@
 extern "C" {
 #endif
 
-/* An entry of a tape or a log. */
+/* An entry of a tape or a log. The mark is 1 where a fetch or a store fell outside its array. */
 typedef struct {
     uint8_t kind, label;
     uint16_t record;
-    uint8_t variable;
+    uint8_t variable, mark;
     uint32_t index, value;
 } mazgrut_entry;
 

@@ -55,11 +55,12 @@ fn random_calls(r: &mut Random) -> Vec<CallRow> {
     calls
 }
 
-/// What the comparison met: accepted sheets, steps, and the numbers of refusals.
+/// What the comparison met: accepted sheets, steps, marked entries, and the numbers of refusals.
 #[derive(Default)]
 struct Met {
     accepted: u64,
     steps: u64,
+    marked: u64,
     refusals: BTreeSet<u8>,
 }
 
@@ -77,6 +78,7 @@ fn compare_sheet(r: &mut Random, sheet: &[u8], met: &mut Met) {
     compare_pick(r, &flat.2, met);
     met.accepted += (verdict.layer == 0) as u64;
     met.steps += calls.iter().zip(&flat.1).filter(|(call, _)| call.call == 2).map(|(_, answer)| answer.first).sum::<u64>();
+    met.marked += flat.2.iter().filter(|entry| entry.mark == 1).count() as u64;
     met.refusals.insert(verdict.number);
     met.refusals.extend(flat.1.iter().filter(|a| a.layer != 77).map(|a| a.number));
 }
@@ -87,6 +89,7 @@ fn compare_pick(r: &mut Random, tape: &[Entry], met: &mut Met) {
     if r.chance(20) && !tape.is_empty() {
         let at = r.below(tape.len() as u64) as usize;
         tape[at].label = r.below(6) as u8;
+        tape[at].mark = r.below(256) as u8;
     }
     let room = if r.chance(80) { tape.len() } else { r.below(tape.len() as u64 + 1) as usize };
     for party in 0..3 {
@@ -113,7 +116,8 @@ fn compare_all(cases: u64) {
         compare_sheet(&mut Random::new(cases), &sheet, &mut met);
     }
     met.refusals.remove(&0);
-    println!("compared {cases} sheets ({} accepted, {} steps): no difference", met.accepted, met.steps);
+    let Met { accepted, steps, marked, .. } = met;
+    println!("compared {cases} sheets ({accepted} accepted, {steps} steps, {marked} marked entries): no difference");
     println!("refusals met: {:?}", met.refusals);
 }
 
@@ -207,7 +211,7 @@ fn time_run() {
 fn time_pick() {
     let mut r = Random::new(5);
     let tape: Vec<Entry> = (0..1_000_000)
-        .map(|_| Entry { kind: 1 + r.below(8) as u8, label: r.below(4) as u8, record: 1, variable: 2, index: 3, value: 4 })
+        .map(|_| Entry { kind: 1 + r.below(8) as u8, label: r.below(4) as u8, record: 1, variable: 2, mark: r.below(2) as u8, index: 3, value: 4 })
         .collect();
     let mut out = vec![Entry::default(); tape.len()];
     let mut out2 = out.clone();

@@ -28,6 +28,7 @@ pub struct Entry {
     pub label: u8,
     pub record: u16,
     pub variable: u8,
+    pub mark: u8,
     pub index: u32,
     pub value: u32,
 }
@@ -535,7 +536,9 @@ impl<B: Bank> Session<B> {
         self.check_access(party, v, index)?;
         match self.program.variables[v as usize].kind {
             Kind::Number => self.numbers[v as usize] = value,
-            Kind::Array(_) => self.store(v, index, value),
+            Kind::Array(_) => {
+                self.store(v, index, value);
+            }
         }
         Ok(())
     }
@@ -558,7 +561,7 @@ impl<B: Bank> Session<B> {
         self.check_access(party, v, index)?;
         Ok(match self.program.variables[v as usize].kind {
             Kind::Number => self.numbers[v as usize],
-            Kind::Array(_) => self.fetch(v, index),
+            Kind::Array(_) => self.fetch(v, index).0,
         })
     }
 
@@ -570,13 +573,19 @@ impl<B: Bank> Session<B> {
         }
     }
 
-    fn fetch(&self, v: u8, index: u32) -> u32 {
-        self.bank.get(self.cell(v, index))
+    // The mark of a fetch or a store: 1 where the index is outside the array.
+    fn mark(&self, v: u8, index: u32) -> u8 {
+        u8::from(index >= self.program.variables[v as usize].cells())
     }
 
-    fn store(&mut self, v: u8, index: u32, value: u32) {
+    fn fetch(&self, v: u8, index: u32) -> (u32, u8) {
+        (self.bank.get(self.cell(v, index)), self.mark(v, index))
+    }
+
+    fn store(&mut self, v: u8, index: u32, value: u32) -> u8 {
         let cell = self.cell(v, index);
         self.bank.put(cell, value);
+        self.mark(v, index)
     }
 
     fn number(&self, v: u8) -> u32 {
@@ -649,8 +658,8 @@ impl<B: Bank> Session<B> {
             }
             Form::Fetch { x, a, b } => {
                 let index = self.read(label, b, out);
-                let value = self.fetch(a, index);
-                out.note(Entry { kind: 3, label: self.carried(label, a), record: 0, variable: a, index, value });
+                let (value, mark) = self.fetch(a, index);
+                out.note(Entry { kind: 3, label: self.carried(label, a), record: 0, variable: a, mark, index, value });
                 self.write(label, x, value, out);
             }
             Form::Mux { x, a, b, c } => {
@@ -662,8 +671,8 @@ impl<B: Bank> Session<B> {
             Form::Store { x, a, b } => {
                 let index = self.read(label, a, out);
                 let value = self.read(label, b, out);
-                self.store(x, index, value);
-                out.note(Entry { kind: 5, label, record: 0, variable: x, index, value });
+                let mark = self.store(x, index, value);
+                out.note(Entry { kind: 5, label, record: 0, variable: x, mark, index, value });
             }
             Form::If { a, then, other } => {
                 let value = self.read(label, a, out);
@@ -683,7 +692,7 @@ impl<B: Bank> Session<B> {
             }
             Form::Oram { x, a } => {
                 for i in 0..self.program.variables[a as usize].cells() {
-                    let value = self.fetch(a, i);
+                    let (value, _) = self.fetch(a, i);
                     self.store(x, i, value);
                 }
                 let label = self.program.variables[a as usize].label;

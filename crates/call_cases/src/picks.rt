@@ -7,17 +7,18 @@ use std::alloc::Global;
 use tape::{Entry, pick};
 
 // What fills the buffer before.
-const MARK: Entry = Entry {
+const UNWRITTEN: Entry = Entry {
     kind: 238,
     label: 238,
     record: 238,
     variable: 238,
+    mark: 238,
     index: 238,
     value: 238,
 };
 
 fn parse_entry(row: &[u32]) -> Result<Entry, Fault> {
-    let [kind, label, record, variable, index, value] = *row else {
+    let [kind, label, record, variable, index, value, mark] = *row else {
         return Err(Fault::Unreadable);
     };
     Ok(Entry {
@@ -25,13 +26,14 @@ fn parse_entry(row: &[u32]) -> Result<Entry, Fault> {
         label: u8::try_from(label)?,
         record: u16::try_from(record)?,
         variable: u8::try_from(variable)?,
+        mark: u8::try_from(mark)?,
         index,
         value,
     })
 }
 
 fn parse_tape(heap: Global, numbers: &[u32]) -> Result<Vec<Entry>, Fault> {
-    numbers.chunks(6).map(parse_entry).try_collect(heap)
+    numbers.chunks(7).map(parse_entry).try_collect(heap)
 }
 
 // How many entries were picked, and then the whole buffer.
@@ -45,24 +47,25 @@ fn picked(heap: Global, count: usize, buffer: &[Entry]) -> Result<Answer, Fault>
             u64::from(entry.variable),
             u64::from(entry.index),
             u64::from(entry.value),
+            u64::from(entry.mark),
         ])?;
     }
     Ok(Answer::Numbers("picked", numbers))
 }
 
-// `pick PARTY BUFFER ENTRY..`, with six numbers an entry.
+// `pick PARTY BUFFER ENTRY..`, with seven numbers an entry.
 pub fn pick_log(heap: Global, order: &AnyOrder, numbers: &[u32]) -> Result<Answer, Fault> {
     let [party, buffer, numbers @ ..] = numbers else {
         return Err(Fault::Unreadable);
     };
     let (party, size) = (u8::try_from(*party)?, u16::try_from(*buffer)?);
     let tape = parse_tape(heap, numbers)?;
-    let mut buffer = vec![in heap; MARK; size as usize]?;
+    let mut buffer = vec![in heap; UNWRITTEN; size as usize]?;
     match pick(order, party, &tape, &mut buffer) {
         Ok(count) => picked(heap, count, &buffer),
         Err(fault) => Ok(Answer::Left {
             refusal: Refusal::from(fault),
-            untouched: buffer.iter().all(|entry| *entry == MARK),
+            untouched: buffer.iter().all(|entry| *entry == UNWRITTEN),
         }),
     }
 }

@@ -11,7 +11,7 @@ use model::Stop;
 use session::{RunReport, Session};
 use sheet::{ReadSheet, lay_out};
 use std::alloc::Global;
-use tape::{BLANK, Entry, pick};
+use tape::{BLANK, Entry, pick, pick_entry};
 
 // The parties.
 const MAKER: u8 = 0;
@@ -51,11 +51,38 @@ const OTHER: Recording = Recording {
     slacks: [50, 20, 35],
 };
 
+// Its second frame names a drive that the maker does not have.
 const THIRD: Recording = Recording {
-    drives: [2, 0, 1],
+    drives: [2, DRIVE_COUNT as u32, 1],
     slacks: [59, 30, 10],
 };
 
+// A session that was played to its end: how its runs went, and what they wrote.
+#[derive(Drop)]
+struct Played {
+    pieces: Vec<RunReport>,
+    joined: Vec<Entry>,
+}
+
+/// An entry of the host's tape whose index fell outside, and what stands in its place in each log, if anything does.
+#[derive(Clone, Copy)]
+pub struct Outside {
+    pub entry: Entry,
+    pub maker: Option<Entry>,
+    pub plant: Option<Entry>,
+}
+
+impl Outside {
+    fn of(entry: &Entry) -> Self {
+        Outside {
+            entry: *entry,
+            maker: pick_entry(&TwoParty, MAKER, *entry),
+            plant: pick_entry(&TwoParty, PLANT, *entry),
+        }
+    }
+}
+
+/// What was done, and what there is to tell of it.
 #[derive(Drop)]
 pub struct Told {
     pub bytes: usize,
@@ -66,6 +93,8 @@ pub struct Told {
     pub plant: Vec<Entry>,
     pub other: Logs,
     pub third: Logs,
+    /// The marked entries of the host's tape with the third recording.
+    pub outside: Vec<Outside>,
 }
 
 // Adds the calls that enter these values in an array.
@@ -186,27 +215,52 @@ fn compare_with(heap: Global, sheet: &ReadSheet, recording: &Recording) -> anyho
     ))
 }
 
-// The session with the first recording, from the accepted sheet to both logs; then the comparisons.
-fn play_sheet(heap: Global, bytes: &[u8]) -> anyhow::Result<Told> {
-    let mut sheet = ReadSheet::smallest();
-    sheet
-        .read(bytes)
-        .map_err(|_| anyhow!("the sheet was refused"))?;
+// A session with a recording, from the sheet to its end.
+fn play_recording(
+    heap: Global,
+    sheet: &ReadSheet,
+    recording: &Recording,
+) -> anyhow::Result<Played> {
     let mut program = Program::new(TwoParty);
-    accept(&sheet, &TwoParty, &mut program).map_err(|_| anyhow!("the program was refused"))?;
+    accept(sheet, &TwoParty, &mut program).map_err(|_| anyhow!("the program was refused"))?;
     let bank = ShareBank::new(vec![in heap; 0u32; SHARE_WORDS]?, 1);
     let mut session = Session::open(program, bank);
     enter_all(&mut session, &margins(heap)?, "a margin was refused")?;
-    enter_all(&mut session, &frames(heap, &FIRST)?, "a frame was refused")?;
+    enter_all(
+        &mut session,
+        &frames(heap, recording)?,
+        "a frame was refused",
+    )?;
     session
         .start()
         .map_err(|_| anyhow!("the start was refused"))?;
     let mut joined = Vec::new(heap);
     let pieces = run_all(heap, &mut session, &mut joined)?;
+    Ok(Played { pieces, joined })
+}
+
+// The entries of a tape that are marked.
+fn marked(heap: Global, joined: &[Entry]) -> anyhow::Result<Vec<Outside>> {
+    let mut outside = Vec::new(heap);
+    for entry in joined.iter().filter(|entry| entry.mark != 0) {
+        outside.push(Outside::of(entry))?;
+    }
+    Ok(outside)
+}
+
+// The session with the first recording, from the read sheet to both logs; then the comparisons, and what the host's tape
+// marks with the third.
+fn play_sheet(heap: Global, bytes: &[u8]) -> anyhow::Result<Told> {
+    let mut sheet = ReadSheet::smallest();
+    sheet
+        .read(bytes)
+        .map_err(|_| anyhow!("the sheet was refused"))?;
+    let Played { pieces, joined } = play_recording(heap, &sheet, &FIRST)?;
     let maker = log_of(heap, MAKER, &joined)?;
     let plant = log_of(heap, PLANT, &joined)?;
     let other = compare_with(heap, &sheet, &OTHER)?;
     let third = compare_with(heap, &sheet, &THIRD)?;
+    let outside = marked(heap, &play_recording(heap, &sheet, &THIRD)?.joined)?;
     Ok(Told {
         bytes: bytes.len(),
         variables: sheet.variables(),
@@ -216,9 +270,11 @@ fn play_sheet(heap: Global, bytes: &[u8]) -> anyhow::Result<Told> {
         plant,
         other,
         third,
+        outside,
     })
 }
 
+/// Lays out the sheet and plays the task; an error says which step failed.
 pub fn play(heap: Global) -> anyhow::Result<Told> {
     let mut buffer = [0; 512];
     let length = lay_out(&variables(), &RECORDS, &mut buffer).map_err(|_| anyhow!(

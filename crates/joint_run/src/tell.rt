@@ -1,11 +1,11 @@
 // Printing what was done.
-use crate::play::Told;
+use crate::play::{Outside, Told};
 use crate::task::name;
 use compare::Logs;
 use std::fmt;
 use tape::{Entry, Kind};
 
-// An entry in words.
+// An entry in words; one that fell outside its array says so.
 #[derive(Clone, Copy)]
 struct Line(Entry);
 
@@ -16,12 +16,13 @@ impl fmt::Display for Line {
         let index = entry.index;
         let value = entry.value;
         let name = name(entry.variable);
+        let outside = if entry.mark == 0 { "" } else { "outside, " };
         match entry.known_kind() {
             Some(Kind::Instruction) => write!(f, "instruction {record}"),
             Some(Kind::Read) => write!(f, "read {name}: {value}"),
-            Some(Kind::Fetch) => write!(f, "fetch {name} [{index}]: {value}"),
+            Some(Kind::Fetch) => write!(f, "fetch {name} [{index}]: {outside}{value}"),
             Some(Kind::Write) => write!(f, "write {name}: {value}"),
-            Some(Kind::Store) => write!(f, "store {name} [{index}]: {value}"),
+            Some(Kind::Store) => write!(f, "store {name} [{index}]: {outside}{value}"),
             Some(Kind::Name) => write!(f, "name {name}"),
             Some(Kind::Release) => write!(f, "release {name}: {value}"),
             Some(Kind::End) => write!(f, "end"),
@@ -47,6 +48,35 @@ fn print_log(rt: &impl Print, who: &str, log: &[Entry]) -> anyhow::Result<()> {
         let line = Line(*entry);
         println!(rt; "  {line}")?;
     }
+    Ok(())
+}
+
+// What stands in a log in the place of an entry of the tape.
+fn print_kept(rt: &impl Print, who: &str, kept: Option<Entry>) -> anyhow::Result<()> {
+    match kept {
+        Some(entry) => {
+            let line = Line(entry);
+            println!(rt; "  the log of the {who} has in its place: {line}")?;
+        }
+        None => println!(rt; "  the log of the {who} has nothing in its place")?,
+    }
+    Ok(())
+}
+
+// What the host's tape marks, and why nobody else sees it.
+fn print_outside(rt: &impl Print, outside: &[Outside]) -> anyhow::Result<()> {
+    println!(rt;
+        "One of its frames names a drive that the maker does not have, and the host's tape marks:"
+    )?;
+    for place in outside {
+        let line = Line(place.entry);
+        println!(rt; "  {line}")?;
+        print_kept(rt, "maker", place.maker)?;
+        print_kept(rt, "plant", place.plant)?;
+    }
+    println!(rt;
+        "The table is labelled O: of what happens in it a log tells the name alone, and not the index, the value or the mark."
+    )?;
     Ok(())
 }
 
@@ -112,14 +142,40 @@ impl Told {
         print_log(rt, "maker", &self.maker)?;
         print_log(rt, "plant", &self.plant)?;
         print_comparison(rt, "another recording", &self.other)?;
-        print_comparison(rt, "a third recording", &self.third)
+        print_comparison(rt, "a third recording", &self.third)?;
+        print_outside(rt, &self.outside)
     }
 }
 
 #[cfg(test)]
 mod tests {
     use super::*;
+    use crate::task::SLACKS;
+    use std::test::Fail;
     use tape::BLANK;
+
+    #[test]
+    fn tells_what_fell_outside(rt: HostRuntime) -> Result<(), Fail> {
+        let lines = [
+            (3, 0, "fetch slacks [7]: 5"),
+            (3, 1, "fetch slacks [7]: outside, 5"),
+            (5, 0, "store slacks [7]: 5"),
+            (5, 1, "store slacks [7]: outside, 5"),
+        ];
+        for (kind, mark, wanted) in lines {
+            let line = Line(Entry {
+                kind,
+                variable: SLACKS,
+                mark,
+                index: 7,
+                value: 5,
+                ..BLANK
+            });
+            let told = format!(in rt.alloc(); "{line}")?;
+            assert_eq!(rt; told.as_str(), wanted);
+        }
+        Ok(())
+    }
 
     #[test]
     fn compares_logs(rt: HostRuntime) {

@@ -92,6 +92,7 @@ entry_same d e p =
       variable = get_or (p j) 3 0;
       index = get_or (p j) 4 0;
       value = get_or (p j) 5 0;
+      mark = get_or (p j) 6 0;
     }
 
 untold : (r : Option Entry) (e : Entry) → option_map told r ≡ Some (told e) → r ≡ Some e
@@ -100,7 +101,7 @@ untold (Some d) e p = ap Some (entry_same d e (let q : told d ≡ told e = cc in
 
 entered : (e : Entry) → Fit entry_limits (told e) → entry_of (words_of (entry_line e)) ≡ Some (told e)
 unfolding words_of
-entered e h = numbers_back entry_limits e.kind (e.label ∷ e.record ∷ e.variable ∷ e.index ∷ e.value ∷ []) h
+entered e h = numbers_back entry_limits e.kind (e.label ∷ e.record ∷ e.variable ∷ e.index ∷ e.value ∷ e.mark ∷ []) h
 
 pub entry_back : (line : List ℕ) (r : Option Entry) → option_map told r ≡ entry_of (words_of line) → EntryBack line r
 entry_back line r p e h at = untold r e (p ∙ ap (λ l. entry_of (words_of l)) at ∙ entered e h)

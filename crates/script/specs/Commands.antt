@@ -93,7 +93,7 @@ asks (name ∷ words) =
 
 -- the limits of an entry's numbers
 abbrev pub entry_limits : List ℕ
-entry_limits = byte ∷ byte ∷ short ∷ byte ∷ word ∷ word ∷ []
+entry_limits = byte ∷ byte ∷ short ∷ byte ∷ word ∷ word ∷ byte ∷ []
 
 -- the numbers of an entry line
 abbrev pub entry_of : List (List ℕ) → Option (List ℕ)

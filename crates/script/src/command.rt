@@ -13,17 +13,18 @@ const MOST_ENTRIES: u64 = 100_000;
 
 const MOST_PICKED: u64 = 10_000;
 
+/// What a line asks for: a name, and behind it its fields.
 #[derive(Drop)]
 pub enum Command<'a> {
-    // The order of two parties.
+    /// The order of two parties.
     OrderTwo,
-    // The order of a set of parties.
+    /// The order of a set of parties.
     OrderSet(u64),
-    // A sheet in hexadecimal digits.
+    /// A sheet in hexadecimal digits.
     Sheet(&'a str),
-    // The words of a flat bank.
+    /// The words of a flat bank.
     Flat(Option<&'a str>),
-    // The pad and the words of a share bank.
+    /// The pad and the words of a share bank.
     Share(u32, Option<&'a str>),
     Open,
     Enter {
@@ -43,7 +44,7 @@ pub enum Command<'a> {
         index: u32,
     },
     Log(u8),
-    // Entries follow, so many of them.
+    /// Entries follow, so many of them.
     Pick {
         party: u8,
         buffer: usize,
@@ -178,7 +179,7 @@ fn read_command<'a>(name: &str, rest: Option<&'a str>) -> Option<Command<'a>>
     }
 }
 
-// The command of a line; none where it cannot be read. A command that is written out is read as itself.
+/// The command of a line; none where it cannot be read. A command that is written out is read as itself.
 pub fn parse_line(line: &str) -> Option<Command<'_>>
     ensures value { option_map asked result ≡ asks (words_of line.now) }
     ensures back { ReadBack line.now (option_map asked result) }
@@ -190,21 +191,22 @@ pub fn parse_line(line: &str) -> Option<Command<'_>>
 fn entry(rest: Option<&str>) -> Option<Entry>
     ensures { option_map told result ≡ numbers entry_limits (fields rest.entry) }
 {
-    let [kind, label, record, variable, index, value] = numbers(
+    let [kind, label, record, variable, index, value, mark] = numbers(
         rest,
-        [BYTE, BYTE, SHORT, BYTE, WORD, WORD],
+        [BYTE, BYTE, SHORT, BYTE, WORD, WORD, BYTE],
     )?;
     Some(Entry {
         kind: kind as u8,
         label: label as u8,
         record: record as u16,
         variable: variable as u8,
+        mark: mark as u8,
         index: index as u32,
         value: value as u32,
     })
 }
 
-// The entry of a line `entry KIND LABEL RECORD VARIABLE INDEX VALUE`. An entry that is printed is read as itself.
+/// The entry of a line `entry KIND LABEL RECORD VARIABLE INDEX VALUE MARK`. An entry that is printed is read as itself.
 pub fn parse_entry(line: &str) -> Option<Entry>
     ensures value { option_map told result ≡ entry_of (words_of line.now) }
     ensures back { EntryBack line.now result }

@@ -1,19 +1,49 @@
 -- Cells of arrays. Assumes nothing.
-use Rattle.std.proofs.Common.{◌≡◌, ℕ, ◌+◌, ◌<◌, ◌≤◌, true, false, eqb, ltb, List, length, get_or, set, sym, ap, ◌∙◌, ⊎_elim}
+use Rattle.std.proofs.Common.{◌≡◌, ℕ, ◌+◌, ◌<◌, ◌≤◌, Bool, true, false, not, eqb, ltb, List, length, get_or, set, Some, None, Option, is_some, ◌↔◌, refl, sym, ap, ◌∙◌, ⊎_elim, arith}
+use Rattle.std.specs.Prelude.{unwrap_or}
+use Rattle.std.specs.Int.{from_bool}
 use Rattle.std.proofs.lemmas.List.{get_or_past, set_past}
-use Rattle.std.proofs.lemmas.Bool.{cases_lt, lt-ltb, le-ltb, ltb-true, and_parts, cond-true, cond-false}
+use Rattle.std.proofs.lemmas.Bool.{cases_lt, lt-ltb, le-ltb, ltb-true, and_parts, cond-true, cond-false, true≢false, false≢true}
 use Rattle.sheet.specs.declared.tables.Kind.{Kind}
 use Rattle.sheet.specs.declared.tables.Kind.TheVariants.{Number, Array}
 use Rattle.sheet.specs.declared.tables.Variable.{Variable}
 use Rattle.model.specs.Program.{Program, IsVariable, kind_of, length_of, base, variable_at}
 use Rattle.model.specs.Rules.{IsNumber, IsArray}
-use Rattle.model.specs.Machine.{Memory, inside, held, put, fetched, stored}
+use Rattle.model.specs.Machine.{Memory, inside, held, put, fetched, mark, stored}
 use Rattle.model.specs.Session.{has_place}
 use Rattle.model.proofs.Memory.{inside_number}
 
--- an array at index i, whose cell is k
-module _ (p : Program) (m : Memory) (v i k : ℕ) (array : IsArray p v)
-    (within : i < length_of p.variables v → k ≡ base p v + i) (beyond : length_of p.variables v ≤ i → length m.cells ≤ k) where
+not_false : (b : Bool) → not b ≡ false → b ≡ true
+not_false true h = refl
+not_false false h = sym h
+
+-- an index is outside just when it has no cell
+pub no_cell : (n i k : ℕ) (r : Option ℕ) → (i < n → r ≡ Some k) → (n ≤ i → r ≡ None) → (none : Bool) → is_some r ≡ not none → (none ≡ true) ↔ (n ≤ i)
+no_cell n i k r within beyond none e = (
+  λ t. ⊎_elim (λ less. absurd (true≢false (sym (ap is_some (within less)) ∙ e ∙ ap not t))) (λ more. more) (cases_lt i n),
+  λ more. not_false none (sym e ∙ ap is_some (beyond more)),
+)
+
+-- the mark of an entry, from whether its index was outside
+pub mark_told : (p : Program) (v i : ℕ) (b : Bool) → (b ≡ true) ↔ (length_of p.variables v ≤ i) → from_bool b ≡ mark p v i
+unfolding mark
+mark_told p v i true h = sym (cond-false _ 0 1 (le-ltb i (length_of p.variables v) (h.0 refl)))
+mark_told p v i false h =
+    ⊎_elim
+    (λ less. sym (cond-true _ 0 1 (lt-ltb i (length_of p.variables v) less)))
+    (λ more. absurd (false≢true (h.1 more)))
+    (cases_lt i (length_of p.variables v))
+
+-- an array at index i, whose cell is r if the index is inside; outside, the bank is asked for the cell after its last
+module _ (p : Program) (m : Memory) (v i : ℕ) (array : IsArray p v) (r : Option ℕ)
+    (within : i < length_of p.variables v → r ≡ Some (base p v + i)) (beyond : length_of p.variables v ≤ i → r ≡ None)
+    (size : ℕ) (all : size ≡ length m.cells) (k : ℕ) (asked : k ≡ unwrap_or r size) where
+  at_cell : i < length_of p.variables v → k ≡ base p v + i
+  at_cell h = asked ∙ ap (λ (o : Option ℕ). unwrap_or o size) (within h)
+
+  after_all : length_of p.variables v ≤ i → length m.cells ≤ k
+  after_all h = omega (arith, all, asked ∙ ap (λ (o : Option ℕ). unwrap_or o size) (beyond h))
+
   in_test : i < length_of p.variables v → inside p v i ≡ true
   unfolding inside
   in_test h = let n = array.0 in let e = array.1 in rw e (lt-ltb i n (rw e at h))
@@ -22,20 +52,20 @@ module _ (p : Program) (m : Memory) (v i k : ℕ) (array : IsArray p v)
   unfolding inside
   out_test h = let n = array.0 in let e = array.1 in rw e (le-ltb i n (rw e at h))
 
-  pub held_cell : i < length_of p.variables v → get_or m.cells k 0 ≡ held p m v i
+  held_cell : i < length_of p.variables v → get_or m.cells k 0 ≡ held p m v i
   unfolding held
-  held_cell h = let e = array.1 in rw e (ap (λ (x : ℕ). get_or m.cells x 0) (within h))
+  held_cell h = let e = array.1 in rw e (ap (λ (x : ℕ). get_or m.cells x 0) (at_cell h))
 
-  pub put_cell : (value : ℕ) → i < length_of p.variables v → ◌≡◌ {A = Memory} (record { numbers = m.numbers; cells = set m.cells k value }) (put p m v i value)
+  put_cell : (value : ℕ) → i < length_of p.variables v → ◌≡◌ {A = Memory} (record { numbers = m.numbers; cells = set m.cells k value }) (put p m v i value)
   unfolding put
-  put_cell value h = let e = array.1 in rw e (ap (λ (x : ℕ). record { numbers = m.numbers; cells = set m.cells x value }) (within h))
+  put_cell value h = let e = array.1 in rw e (ap (λ (x : ℕ). record { numbers = m.numbers; cells = set m.cells x value }) (at_cell h))
 
   pub fetched_cell : get_or m.cells k 0 ≡ fetched p m v i
   unfolding fetched
   fetched_cell =
       ⊎_elim
       (λ less. held_cell less ∙ sym (cond-true _ _ _ (in_test less)))
-      (λ more. get_or_past m.cells k 0 (beyond more) ∙ sym (cond-false _ _ _ (out_test more)))
+      (λ more. get_or_past m.cells k 0 (after_all more) ∙ sym (cond-false _ _ _ (out_test more)))
       (cases_lt i (length_of p.variables v))
 
   pub stored_cell : (value : ℕ) → ◌≡◌ {A = Memory} (record { numbers = m.numbers; cells = set m.cells k value }) (stored p m v i value)
@@ -43,7 +73,7 @@ module _ (p : Program) (m : Memory) (v i k : ℕ) (array : IsArray p v)
   stored_cell value =
       ⊎_elim
       (λ less. put_cell value less ∙ sym (cond-true _ _ _ (in_test less)))
-      (λ more. ap (λ (row : List ℕ). record { numbers = m.numbers; cells = row }) (set_past m.cells k value (beyond more)) ∙ sym (cond-false _ _ _ (out_test more)))
+      (λ more. ap (λ (row : List ℕ). record { numbers = m.numbers; cells = row }) (set_past m.cells k value (after_all more)) ∙ sym (cond-false _ _ _ (out_test more)))
       (cases_lt i (length_of p.variables v))
 
 -- the kind of a variable, and whether there is such a place

@@ -21,3 +21,5 @@ pub(crate) struct Memory<O: LabelOrder, B> {
 mod making;
 mod numbers;
 mod places;
+
+pub(crate) use places::Fetched;

@@ -9,7 +9,7 @@ spaced (n ∷ ns) = 32 ∷ (decimal n ++ spaced ns)
 
 -- an entry as it is written
 abbrev pub told : Entry → List ℕ
-told e = e.kind ∷ e.label ∷ e.record ∷ e.variable ∷ e.index ∷ e.value ∷ []
+told e = e.kind ∷ e.label ∷ e.record ∷ e.variable ∷ e.index ∷ e.value ∷ e.mark ∷ []
 
 -- an entry as a line
 abbrev pub entry_line : Entry → List ℕ

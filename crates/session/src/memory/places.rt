@@ -1,7 +1,7 @@
 // Places of variables: a number, or a cell of an array.
-ghost use Rattle.std.specs.Prelude.{◌≡◌, ◌+◌, ◌^◌, ◌<◌, ◌≤◌, true, length, nat_lt};
+ghost use Rattle.std.specs.Prelude.{◌≡◌, ◌+◌, ◌^◌, ◌<◌, ◌≤◌, ◌↔◌, true, length, IsTrue, Some, None, nat_lt};
 ghost use Rattle.model.specs.Program.{IsVariable, length_of, base, cells_needed};
-ghost use Rattle.model.specs.Machine.{held, put, inside, fetched, stored, copied};
+ghost use Rattle.model.specs.Machine.{held, put, fetched, stored, copied};
 ghost use Rattle.model.specs.Session.{has_place};
 ghost use Rattle.session.specs.Starts.{copied_cells};
 ghost use Rattle.session.specs.Memories.{tables_of, memory_of, HasArray, Becomes};
@@ -10,6 +10,13 @@ use crate::memory::Memory;
 use banks::Bank;
 use labels::LabelOrder;
 use sheet::Kind;
+
+// What a fetch found, and whether its index was outside the array.
+#[derive(Clone, Copy)]
+pub(crate) struct Fetched {
+    pub(crate) value: u32,
+    pub(crate) outside: bool,
+}
 
 // Copies n cells to another place, which the source does not run into. A bank is reached by number alone, so the loop
 // counts.
@@ -46,37 +53,52 @@ impl<O: LabelOrder, B: Bank> Memory<O, B> {
             }
     }
 
-    // The cell of array v at index i; outside the array, one beyond the row.
+    // The cell of array v at index i, or none where the index is outside, not below the array's length.
     #[tactic(auto, using(crate::proofs::Laying::start_at, crate::proofs::Reading::few_variables))]
-    fn cell(&self, v: u8, i: u32) -> usize
+    fn cell(&self, v: u8, i: u32) -> Option<usize>
         requires { IsVariable (tables_of self.now) v }
-        ensures inside { i < length_of (tables_of self.now).variables v → result ≡ base (tables_of self.now) v + i }
-        ensures outside { length_of (tables_of self.now).variables v ≤ i → length (B.cells self.now.bank) ≤ result }
+        ensures inside { i < length_of (tables_of self.now).variables v →
+            result ≡ Some (base (tables_of self.now) v + i) }
+        ensures outside { length_of (tables_of self.now).variables v ≤ i → result ≡ None }
     {
         if i < self.program.variable(v).kind.cells() as u32 {
-            self.starts[v as usize] as usize + i as usize
+            Some(self.starts[v as usize] as usize + i as usize)
         } else {
-            self.bank.size()
+            None
         }
     }
 
-    // Array a at index i, or 0 outside it: one request to the bank.
-    pub(crate) fn fetch(&mut self, a: u8, i: u32) -> u32
+    // Array a at index i, or 0 outside it. The bank is asked its size and then for one cell, inside and outside alike; outside
+    // it is a cell beyond the row.
+    #[tactic(auto, using(crate::proofs::Placing::no_cell))]
+    pub(crate) fn fetch(&mut self, a: u8, i: u32) -> Fetched
         requires { HasArray (tables_of self.old) a }
-        ensures value { result ≡ fetched (tables_of self.old) (memory_of B.cells self.old) a i }
+        ensures value { result.value ≡
+            fetched (tables_of self.old) (memory_of B.cells self.old) a i }
+        ensures outside { IsTrue result.outside ↔ (length_of (tables_of self.old).variables a ≤ i) }
         ensures kept { Becomes B.cells (memory_of B.cells self.old) self.old self.new }
     {
         let cell = self.cell(a, i);
-        self.bank.get(cell)
+        let beyond = self.bank.size();
+        Fetched {
+            value: self.bank.get(cell.unwrap_or(beyond)),
+            outside: cell.is_none(),
+        }
     }
 
-    // Sets array x at index i; outside it nothing changes: one request to the bank.
-    pub(crate) fn store(&mut self, x: u8, i: u32, value: u32)
+    // Sets array x at index i, and answers whether the index was outside; then nothing changes. The bank is asked as for a
+    // fetch.
+    #[tactic(auto, using(crate::proofs::Placing::no_cell))]
+    pub(crate) fn store(&mut self, x: u8, i: u32, value: u32) -> bool
         requires { HasArray (tables_of self.old) x }
-        ensures { Becomes B.cells (stored (tables_of self.old) (memory_of B.cells self.old) x i value) self.old self.new }
+        ensures outside { IsTrue result ↔ (length_of (tables_of self.old).variables x ≤ i) }
+        ensures stored { Becomes B.cells
+            (stored (tables_of self.old) (memory_of B.cells self.old) x i value) self.old self.new }
     {
         let cell = self.cell(x, i);
-        self.bank.put(cell, value);
+        let beyond = self.bank.size();
+        self.bank.put(cell.unwrap_or(beyond), value);
+        cell.is_none()
     }
 
     // Copies array a, of the same length, to array x: one put for each cell, in rising order.
@@ -101,7 +123,7 @@ impl<O: LabelOrder, B: Bank> Memory<O, B> {
     {
         match self.program.variable(v).kind {
             Kind::Number => self.number(v),
-            Kind::Array(_) => self.fetch(v, i),
+            Kind::Array(_) => self.fetch(v, i).value,
         }
     }
 
@@ -109,11 +131,14 @@ impl<O: LabelOrder, B: Bank> Memory<O, B> {
     #[tactic(auto, using(crate::proofs::Placing::there, crate::proofs::Placing::is_number, crate::proofs::Placing::is_array, crate::proofs::Placing::enter_number, crate::proofs::Placing::enter_array))]
     pub(crate) fn enter(&mut self, v: u8, i: u32, value: u32)
         requires { has_place (tables_of self.old) v i ≡ true }
-        ensures { Becomes B.cells (put (tables_of self.old) (memory_of B.cells self.old) v i value) self.old self.new }
+        ensures { Becomes B.cells
+            (put (tables_of self.old) (memory_of B.cells self.old) v i value) self.old self.new }
     {
         match self.program.variable(v).kind {
             Kind::Number => self.set_number(v, value),
-            Kind::Array(_) => self.store(v, i, value),
+            Kind::Array(_) => {
+                self.store(v, i, value);
+            }
         }
     }
 }

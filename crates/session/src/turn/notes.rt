@@ -1,10 +1,11 @@
 // What a record reads and changes, each with its entry on the tape.
 ghost use Rattle.std.specs.Prelude.{◌≡◌, [], ◌∷◌};
 ghost use Rattle.model.specs.Program.{label_of};
-ghost use Rattle.model.specs.Machine.{instruction, read, fetch, write, store, name, release, end, carried, held, put, fetched, stored};
+ghost use Rattle.model.specs.Machine.{instruction, read, fetch, write, store, name, release, end, carried, held, put, fetched, mark, stored};
 ghost use Rattle.session.specs.Memories.{tables_of, order_of, memory_of, HasNumber, HasArray};
 ghost use Rattle.session.specs.Acting.{HasRoom, Leaves};
 
+use crate::memory::Fetched;
 use crate::turn::Turn;
 use banks::Bank;
 use labels::LabelOrder;
@@ -63,18 +64,25 @@ impl<'a, O: LabelOrder, B: Bank> Turn<'a, O, B> {
         value
     }
 
-    // Array a at index i, or 0 outside it.
+    // Array a at index i, or 0 outside it, which its entry marks.
+    #[tactic(auto, using(crate::proofs::Placing::mark_told))]
     pub(crate) fn fetch(&mut self, a: u8, i: u32) -> u32
         requires room { HasRoom 1 self.old }
         requires array { HasArray (tables_of self.old.memory.now) a }
-        ensures value { result ≡ fetched (tables_of self.old.memory.now) (memory_of B.cells self.old.memory.now) a i }
-        ensures left { Leaves B.cells (fetch (carried (O.meaning (order_of self.old.memory.now)) (tables_of self.old.memory.now) self.old.label a) a i result ∷ []) (memory_of B.cells self.old.memory.now) self.old self.new }
+        ensures value { result ≡
+            fetched (tables_of self.old.memory.now) (memory_of B.cells self.old.memory.now) a i }
+        ensures left { Leaves B.cells
+            (fetch
+            (carried (O.meaning (order_of self.old.memory.now)) (tables_of self.old.memory.now) self.old.label a)
+            a i result (mark (tables_of self.old.memory.now) a i) ∷ [])
+            (memory_of B.cells self.old.memory.now) self.old self.new }
     {
-        let value = self.memory.fetch(a, i);
+        let Fetched { value, outside } = self.memory.fetch(a, i);
         self.note(Entry {
             kind: Kind::Fetch as u8,
             label: self.carried(a),
             variable: a,
+            mark: u8::from(outside),
             index: i,
             value,
             ..BLANK
@@ -115,17 +123,22 @@ impl<'a, O: LabelOrder, B: Bank> Turn<'a, O, B> {
         });
     }
 
-    // Sets array x at index i; outside it nothing changes.
+    // Sets array x at index i; outside it nothing changes, and the entry is marked.
+    #[tactic(auto, using(crate::proofs::Placing::mark_told))]
     pub(crate) fn store(&mut self, x: u8, i: u32, value: u32)
         requires room { HasRoom 1 self.old }
         requires array { HasArray (tables_of self.old.memory.now) x }
-        ensures left { Leaves B.cells (store self.old.label x i value ∷ []) (stored (tables_of self.old.memory.now) (memory_of B.cells self.old.memory.now) x i value) self.old self.new }
+        ensures left { Leaves B.cells
+            (store self.old.label x i value (mark (tables_of self.old.memory.now) x i) ∷ [])
+            (stored (tables_of self.old.memory.now) (memory_of B.cells self.old.memory.now) x i value)
+            self.old self.new }
     {
-        self.memory.store(x, i, value);
+        let outside = self.memory.store(x, i, value);
         self.note(Entry {
             kind: Kind::Store as u8,
             label: self.label,
             variable: x,
+            mark: u8::from(outside),
             index: i,
             value,
             ..BLANK
