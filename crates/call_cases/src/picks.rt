@@ -53,7 +53,7 @@ fn picked(heap: Global, count: usize, buffer: &[Entry]) -> Result<Answer, Fault>
     Ok(Answer::Numbers("picked", numbers))
 }
 
-// `pick PARTY BUFFER ENTRY..`, with seven numbers an entry.
+/// `pick PARTY BUFFER ENTRY..`, with seven numbers an entry.
 pub fn pick_log(heap: Global, order: &AnyOrder, numbers: &[u32]) -> Result<Answer, Fault> {
     let [party, buffer, numbers @ ..] = numbers else {
         return Err(Fault::Unreadable);

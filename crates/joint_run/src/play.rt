@@ -241,11 +241,8 @@ fn play_recording(
 
 // The entries of a tape that are marked.
 fn marked(heap: Global, joined: &[Entry]) -> anyhow::Result<Vec<Outside>> {
-    let mut outside = Vec::new(heap);
-    for entry in joined.iter().filter(|entry| entry.mark != 0) {
-        outside.push(Outside::of(entry))?;
-    }
-    Ok(outside)
+    let outside = joined.iter().filter(|entry| entry.mark != 0);
+    Ok(outside.map(Outside::of).collect(heap)?)
 }
 
 // The session with the first recording, from the read sheet to both logs; then the comparisons, and what the host's tape

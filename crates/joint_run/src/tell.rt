@@ -127,6 +127,7 @@ fn print_comparison(rt: &impl Print, what: &str, logs: &Logs) -> anyhow::Result<
 }
 
 impl Told {
+    /// Prints it all; an error is one of writing.
     pub fn print(&self, rt: &impl Print) -> anyhow::Result<()> {
         let bytes = self.bytes;
         let variables = self.variables;

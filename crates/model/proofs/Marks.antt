@@ -34,7 +34,7 @@ module _ (p : Program) where
   fell_outside v i one =
       ⊎_elim (λ less. absurd (omega (arith, one, mark_inside v i less))) (λ more. more) (cases_lt i (length_of p.variables v))
 
-  array_outside : (v i : ℕ) → IsArray p v → length_of p.variables v ≤ i → inside p v i ≡ false
+  pub array_outside : (v i : ℕ) → IsArray p v → length_of p.variables v ≤ i → inside p v i ≡ false
   unfolding inside
   array_outside v i array h = let n = array.0 in let e = array.1 in rw e (le-ltb i n (rw e at h))
 

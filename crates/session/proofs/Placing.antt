@@ -12,6 +12,8 @@ use Rattle.model.specs.Rules.{IsNumber, IsArray}
 use Rattle.model.specs.Machine.{Memory, inside, held, put, fetched, mark, stored}
 use Rattle.model.specs.Session.{has_place}
 use Rattle.model.proofs.Memory.{inside_number}
+use Rattle.model.proofs.Steps.{array_inside}
+use Rattle.model.proofs.Marks.{mark_inside, mark_outside, array_outside}
 
 not_false : (b : Bool) → not b ≡ false → b ≡ true
 not_false true h = refl
@@ -26,13 +28,9 @@ no_cell n i k r within beyond none e = (
 
 -- the mark of an entry, from whether its index was outside
 pub mark_told : (p : Program) (v i : ℕ) (b : Bool) → (b ≡ true) ↔ (length_of p.variables v ≤ i) → from_bool b ≡ mark p v i
-unfolding mark
-mark_told p v i true h = sym (cond-false _ 0 1 (le-ltb i (length_of p.variables v) (h.0 refl)))
+mark_told p v i true h = sym (mark_outside p v i (h.0 refl))
 mark_told p v i false h =
-    ⊎_elim
-    (λ less. sym (cond-true _ 0 1 (lt-ltb i (length_of p.variables v) less)))
-    (λ more. absurd (false≢true (h.1 more)))
-    (cases_lt i (length_of p.variables v))
+    ⊎_elim (λ less. sym (mark_inside p v i less)) (λ more. absurd (false≢true (h.1 more))) (cases_lt i (length_of p.variables v))
 
 -- an array at index i, whose cell is r if the index is inside; outside, the bank is asked for the cell after its last
 module _ (p : Program) (m : Memory) (v i : ℕ) (array : IsArray p v) (r : Option ℕ)
@@ -43,14 +41,6 @@ module _ (p : Program) (m : Memory) (v i : ℕ) (array : IsArray p v) (r : Optio
 
   after_all : length_of p.variables v ≤ i → length m.cells ≤ k
   after_all h = omega (arith, all, asked ∙ ap (λ (o : Option ℕ). unwrap_or o size) (beyond h))
-
-  in_test : i < length_of p.variables v → inside p v i ≡ true
-  unfolding inside
-  in_test h = let n = array.0 in let e = array.1 in rw e (lt-ltb i n (rw e at h))
-
-  out_test : length_of p.variables v ≤ i → inside p v i ≡ false
-  unfolding inside
-  out_test h = let n = array.0 in let e = array.1 in rw e (le-ltb i n (rw e at h))
 
   held_cell : i < length_of p.variables v → get_or m.cells k 0 ≡ held p m v i
   unfolding held
@@ -64,16 +54,16 @@ module _ (p : Program) (m : Memory) (v i : ℕ) (array : IsArray p v) (r : Optio
   unfolding fetched
   fetched_cell =
       ⊎_elim
-      (λ less. held_cell less ∙ sym (cond-true _ _ _ (in_test less)))
-      (λ more. get_or_past m.cells k 0 (after_all more) ∙ sym (cond-false _ _ _ (out_test more)))
+      (λ less. held_cell less ∙ sym (cond-true _ _ _ (array_inside p v i array.0 array.1 less)))
+      (λ more. get_or_past m.cells k 0 (after_all more) ∙ sym (cond-false _ _ _ (array_outside p v i array more)))
       (cases_lt i (length_of p.variables v))
 
   pub stored_cell : (value : ℕ) → ◌≡◌ {A = Memory} (record { numbers = m.numbers; cells = set m.cells k value }) (stored p m v i value)
   unfolding stored
   stored_cell value =
       ⊎_elim
-      (λ less. put_cell value less ∙ sym (cond-true _ _ _ (in_test less)))
-      (λ more. ap (λ (row : List ℕ). record { numbers = m.numbers; cells = row }) (set_past m.cells k value (after_all more)) ∙ sym (cond-false _ _ _ (out_test more)))
+      (λ less. put_cell value less ∙ sym (cond-true _ _ _ (array_inside p v i array.0 array.1 less)))
+      (λ more. ap (λ (row : List ℕ). record { numbers = m.numbers; cells = row }) (set_past m.cells k value (after_all more)) ∙ sym (cond-false _ _ _ (array_outside p v i array more)))
       (cases_lt i (length_of p.variables v))
 
 -- the kind of a variable, and whether there is such a place
