@@ -59,7 +59,7 @@ impl<O: LabelOrder> Program<O> {
     pub fn new(order: O) -> Program<O>
         ensures { contents result ≡ holding order (smallest (O.meaning order).public) }
     {
-        let label = O::P;
+        let label = order.public();
         let number = Variable {
             label,
             ..Variable::default()

@@ -1,5 +1,4 @@
 // One of the two label orders, by a match in each method: a trait with a constant, of copied values, has no `dyn`.
-ghost use Rattle.std.specs.Prelude.{refl};
 ghost use Rattle.choice.specs.Orders.{order_meaning};
 ghost use Rattle.labels.specs.TwoLaws.{two_party_lawful};
 ghost use Rattle.labels.specs.SetLaws.{party_set_lawful};
@@ -16,16 +15,12 @@ pub enum AnyOrder {
 impl LabelOrder for AnyOrder {
     const P: u8 = 0;
 
-    ghost P = { 0 };
-
     ghost meaning = { order_meaning };
 
     ghost lawful = { elim [
       | Two order ↦ two_party_lawful
       | Set order ↦ party_set_lawful order.parties order.ok.1
     ] };
-
-    ghost public_is_P = { elim [ Two order ↦ refl | Set order ↦ refl ] };
 
     fn knows(&self, label: u8) -> bool {
         match self {
@@ -39,6 +34,10 @@ impl LabelOrder for AnyOrder {
             AnyOrder::Two(order) => order.parties(),
             AnyOrder::Set(order) => order.parties(),
         }
+    }
+
+    fn public(&self) -> u8 {
+        Self::P
     }
 
     fn secret(&self) -> u8 {

@@ -1,14 +1,12 @@
 // The interface of label orders.
-ghost use Rattle.std.specs.Prelude.{◌≡◌, ℕ};
+ghost use Rattle.std.specs.Prelude.{◌≡◌};
 ghost use Rattle.labels.specs.Labels.{Labels, Lawful};
 
 // A label order: labels of one byte, parties counted from 0, and who may see what. Every function answers from the
 // meaning for every input, unknown labels and parties included; none refuses.
 pub trait LabelOrder: Copy {
-    // The public label, one for all values of the type.
+    // The public label. Code that is generic over orders asks `public`, which has a contract.
     const P: u8;
-
-    ghost P: { ℕ };
 
     // What the order means.
     ghost meaning: { Self → Labels };
@@ -23,10 +21,7 @@ pub trait LabelOrder: Copy {
 
     // The public label P, open to every party.
     fn public(&self) -> u8
-        ensures { result ≡ (meaning self.now).public }
-    {
-        Self::P
-    }
+        ensures { result ≡ (meaning self.now).public };
 
     // The secret label O, open to none.
     fn secret(&self) -> u8
@@ -45,6 +40,4 @@ pub trait LabelOrder: Copy {
         ensures { result ≡ (meaning self.now).opens label party };
 
     ghost lawful: { (o : Self) → Lawful (meaning o) };
-
-    ghost public_is_P: { (o : Self) → (meaning o).public ≡ P };
 }

@@ -1,5 +1,5 @@
 // The order of a set of two to eight parties.
-ghost use Rattle.std.specs.Prelude.{◌≡◌, ◌^◌, ◌≤◌, refl};
+ghost use Rattle.std.specs.Prelude.{◌≡◌, ◌^◌, ◌≤◌};
 ghost use Rattle.labels.specs.Orders.{party_set};
 ghost use Rattle.refusal.specs.Answers.{map_ok};
 ghost use Rattle.labels.specs.Make.{party_count};
@@ -39,13 +39,9 @@ impl PartySet {
 impl LabelOrder for PartySet {
     const P: u8 = 0;
 
-    ghost P = { 0 };
-
     ghost meaning = { λ s. party_set s.parties };
 
     ghost lawful = { λ o. party_set_lawful o.parties o.ok.1 };
-
-    ghost public_is_P = { λ _. refl };
 
     fn knows(&self, label: u8) -> bool {
         u16::from(label) < self.labels()
@@ -53,6 +49,10 @@ impl LabelOrder for PartySet {
 
     fn parties(&self) -> u8 {
         self.parties
+    }
+
+    fn public(&self) -> u8 {
+        Self::P
     }
 
     fn secret(&self) -> u8 {

@@ -1,5 +1,4 @@
 // The order of two parties: Alice is party 0, Bob party 1.
-ghost use Rattle.std.specs.Prelude.{refl};
 ghost use Rattle.labels.specs.Orders.{two_party};
 ghost use Rattle.labels.specs.TwoLaws.{two_party_lawful};
 
@@ -18,13 +17,9 @@ pub struct TwoParty;
 impl LabelOrder for TwoParty {
     const P: u8 = 0;
 
-    ghost P = { 0 };
-
     ghost meaning = { λ _. two_party };
 
     ghost lawful = { λ o. two_party_lawful };
-
-    ghost public_is_P = { λ _. refl };
 
     fn knows(&self, label: u8) -> bool {
         label < 4
@@ -32,6 +27,10 @@ impl LabelOrder for TwoParty {
 
     fn parties(&self) -> u8 {
         2
+    }
+
+    fn public(&self) -> u8 {
+        Self::P
     }
 
     fn secret(&self) -> u8 {

@@ -56,7 +56,7 @@ fn label_read<O: LabelOrder>(order: &O, r: Labelled) -> u8
 {
     match r.form {
         1 => r.a,
-        2 => O::P,
+        2 => order.public(),
         5 => order.join(r.a, order.join(r.b, r.c)),
         _ => order.join(r.a, r.b),
     }
@@ -67,9 +67,10 @@ fn label_read<O: LabelOrder>(order: &O, r: Labelled) -> u8
 pub fn broken_rule<O: LabelOrder>(order: &O, r: Labelled) -> Option<Rule>
     ensures { result ≡ first_broken (O.meaning order.now) r }
 {
+    let public = order.public();
     let secret = order.secret();
     match r.form {
-        _ if r.around != O::P && r.around != r.label => Some(Rule::Around),
+        _ if r.around != public && r.around != r.label => Some(Rule::Around),
         1..=6 if r.x != r.label => Some(Rule::Target),
         1..=6 if !order.flows(label_read(order, r), r.label) => Some(Rule::Source),
         4 if !order.flows(r.b, r.a) => Some(Rule::Index),

@@ -163,9 +163,10 @@ impl<'a, O: LabelOrder, B: Bank> Turn<'a, O, B> {
         requires { HasRoom 1 self.old }
         ensures left { Leaves B.cells (end (O.meaning (order_of self.old.memory.now)).public ∷ []) (memory_of B.cells self.old.memory.now) self.old self.new }
     {
+        let label = self.memory.program().order().public();
         self.note(Entry {
             kind: Kind::End as u8,
-            label: O::P,
+            label,
             ..BLANK
         });
     }
