@@ -7,3 +7,5 @@ mod layouts;
 mod orders;
 #[cfg(test)]
 mod rows;
+#[cfg(test)]
+mod turned;
