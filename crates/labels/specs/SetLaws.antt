@@ -1,15 +1,19 @@
 -- The party-set order of two to eight parties is lawful. Assumes nothing.
-use Rattle.std.specs.Prelude.{◌≡◌, ℕ, ◌-◌, ◌^◌, ◌<◌, ◌≤◌, Bool, true, false, not, nat_lt, refl}
-use Rattle.std.proofs.Common.{sym, ◌∙◌, arith, pow_pos, pow_mono}
+use Rattle.std.specs.Prelude.{◌≡◌, ℕ, ◌-◌, ◌/◌, ◌%◌, ◌^◌, ◌<◌, ◌≤◌, Bool, true, false, not, nat_lt, refl}
+use Rattle.std.proofs.Common.{sym, ap, ◌∙◌, arith, pow_pos, pow_mono}
 use Rattle.std.proofs.Math.Nat.{zero-div}
 use Rattle.std.specs.Int.Bits.{bit_or, or_self, or_zero_l}
-use Rattle.std.proofs.lemmas.Nat.{or_lt, or_comm}
+use Rattle.std.proofs.lemmas.Nat.{or_shr, or_mod, or_lt, or_comm}
 use Rattle.std.proofs.lemmas.Nat.Bits.{bit_at_or, bit_at-lt, bit_at_ones}
 use Rattle.std.proofs.lemmas.Bool.{eq-eqb, ne_eqb, false≢true, ltb-true, lt-ltb, not-true, not_from_false, not_from_true}
 use Rattle.labels.specs.Labels.{Lawful}
 use Rattle.labels.specs.Orders.{party_set, shut_out}
 use Rattle.labels.specs.ByJoin.{Semilattice, lawful}
 use Rattle.labels.specs.Or.{or_assoc, or_ones}
+
+-- a bit of the or is the or of the bits
+pub or_bit : (m n p : ℕ) → bit_or m n / 2 ^ p % 2 ≡ bit_or (m / 2 ^ p % 2) (n / 2 ^ p % 2)
+or_bit m n p = ap (λ (x : ℕ). x % 2) (or_shr m n p) ∙ or_mod (m / 2 ^ p) (n / 2 ^ p) 1
 
 -- every party is shut out of the secret label
 shut_secret : (n p : ℕ) → n ≤ 8 → p < n → shut_out (2 ^ n - 1) p ≡ true
