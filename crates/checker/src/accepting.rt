@@ -1,5 +1,5 @@
 // Accepting a read sheet.
-ghost use Rattle.std.specs.Prelude.{◌≡◌, ℕ, ◌+◌, ◌<◌, ◌≤◌, map, length, is_ok, if◌then◌else◌};
+ghost use Rattle.std.specs.Prelude.{◌≡◌, ℕ, ◌+◌, ◌<◌, ◌≤◌, [], map, length, is_ok, if◌then◌else◌};
 ghost use Rattle.std.specs.List.{range_with_len};
 ghost use Rattle.refusal.specs.Answers.{answer};
 ghost use Rattle.checker.specs.Accepting.{tables_in, sheet_program, accept_refusal, Verdict, IsMisshapen};
@@ -10,44 +10,56 @@ use crate::program::Program;
 use crate::tables::Tables;
 use arrayvec::ArrayVec;
 use labels::LabelOrder;
+use model::Place;
 use refusal::Refusal;
 use sheet::{ReadSheet, Record, Variable};
 
-// A table of so many entries, as a function answers them by their index.
-fn collect<T: Default + Drop, const N: usize, F: Fn(usize) -> T>(
+// Fills an empty table with so many entries, as a function answers them by their index. Tables are large, so no function
+// here hands one back: each that did would clear and copy it once more.
+fn fill<T: Drop, const N: usize, F: Fn(usize) -> T>(
+    table: &mut ArrayVec<T, N>,
     count: usize,
     entry: F,
-) -> ArrayVec<T, N>
+)
+    requires empty { table.old.items ≡ [] }
     requires room { count ≤ N }
     requires callable { (k : ℕ) → k < count → F.pre entry k }
-    ensures { (f : ℕ → T) → ((k : ℕ) (x : T) → F.post entry k x → x ≡ f k) → result.items ≡ map f (range_with_len 0 count) }
+    ensures { (f : ℕ → T) → ((k : ℕ) (x : T) → F.post entry k x → x ≡ f k) → table.new.items ≡ map f (range_with_len 0 count) }
 {
-    let mut table = ArrayVec::new();
     // `extend` over the range would answer a Result, which is never an error here.
     for k in 0..count {
         table.push(entry(k));
     }
-    table
 }
 
 impl Tables {
-    // The tables of a sheet.
-    fn of_sheet(sheet: &ReadSheet) -> Tables
-        ensures { tables_in result ≡ sheet_program sheet.now.bytes.now }
+    // Fills empty tables with those of a sheet.
+    fn take_sheet(&mut self, sheet: &ReadSheet)
+        requires empty { (self.old.variables.items ≡ []) × (self.old.records.items ≡ []) }
+        ensures tables { tables_in self.new ≡ sheet_program sheet.now.bytes.now }
+        ensures begins { 1 ≤ length self.new.records.items }
     {
-        Tables {
-            variables: collect(sheet.variables(), |k| sheet.variable(k).unwrap_or_default()),
-            records: collect(sheet.records(), |k| sheet.record(k + 1).unwrap_or_default()),
-        }
+        fill(
+            &mut self.variables,
+            sheet.variables(),
+            |k| sheet.variable(k).unwrap_or_default(),
+        );
+        fill(
+            &mut self.records,
+            sheet.records(),
+            |k| sheet.record(k + 1).unwrap_or_default(),
+        );
     }
 
     // The shape, then the rules.
     #[tactic(auto, unfolding(crate::specs::Accepting::accept_refusal, crate::specs::Checks::shape_refusal))]
     fn check<O: LabelOrder>(&self, order: &O) -> Result<(), Refusal>
+        requires { 1 ≤ length self.now.records.items }
         ensures { result ≡ answer (accept_refusal (O.meaning order.now) (tables_in self.now)) tt }
     {
         self.check_entries(order)?;
-        let nested = Nested::of(self);
+        let mut room = [Place::default(); 512];
+        let nested = Nested::of(self, &mut room);
         nested.check_depth()?;
         nested.check_rules(order)?;
         Ok(())
@@ -68,14 +80,13 @@ impl<O: LabelOrder> Program<O> {
             label,
             ..Record::default()
         };
-        let mut variables = ArrayVec::new();
-        variables.push(number);
-        let mut records = ArrayVec::new();
-        records.push(skip);
-        Program {
-            order,
-            tables: Tables { variables, records },
-        }
+        let mut tables = Tables {
+            variables: ArrayVec::new(),
+            records: ArrayVec::new(),
+        };
+        tables.variables.push(number);
+        tables.records.push(skip);
+        Program { order, tables }
     }
 }
 
@@ -88,12 +99,14 @@ fn take_over<O: LabelOrder>(
     ensures answers { result ≡ answer (accept_refusal (O.meaning order.now) (sheet_program sheet.now.bytes.now)) tt }
     ensures filled { contents program.new ≡ (if is_ok result then holding order.now (sheet_program sheet.now.bytes.now) else contents program.old) }
 {
-    let tables = Tables::of_sheet(sheet);
-    tables.check(order)?;
-    *program = Program {
-        order: *order,
-        tables,
+    let mut tables = Tables {
+        variables: ArrayVec::new(),
+        records: ArrayVec::new(),
     };
+    tables.take_sheet(sheet);
+    tables.check(order)?;
+    program.order = *order;
+    program.tables = tables;
     Ok(())
 }
 

@@ -3,12 +3,11 @@ ghost use Rattle.std.specs.Prelude.{◌≡◌};
 ghost use Rattle.checker.specs.Walking.{nested};
 
 use crate::tables::Tables;
-use arrayvec::ArrayVec;
 use model::Place;
 
 #[derive(Drop)]
 pub(crate) struct Nested<'a> {
     pub(crate) tables: &'a Tables,
-    pub(crate) places: ArrayVec<Place, 512>,
-    ghost filled: { places.items ≡ nested tables.now.records.items },
+    pub(crate) places: &'a [Place],
+    ghost filled: { places.now ≡ nested tables.now.records.items },
 }

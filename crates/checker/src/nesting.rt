@@ -8,7 +8,6 @@ ghost use Rattle.checker.specs.Accepting.{tables_in};
 
 use crate::nested::Nested;
 use crate::tables::Tables;
-use arrayvec::ArrayVec;
 use labels::LabelOrder;
 use model::Place;
 use rules::{RuleFault, ShapeFault, around, broken_rule, label_operands, record_at};
@@ -17,18 +16,21 @@ use rules::{RuleFault, ShapeFault, around, broken_rule, label_operands, record_a
 const DEEPEST: u16 = 16;
 
 impl<'a> Nested<'a> {
-    pub(crate) fn of(tables: &'a Tables) -> Nested<'a>
-        requires { Linked tables.now.records.items }
+    // The places stand in the room that is lent, as many as there are records.
+    pub(crate) fn of(tables: &'a Tables, room: &'a mut [Place; 512]) -> Nested<'a>
+        requires begins { 1 ≤ length tables.now.records.items }
+        requires linked { Linked tables.now.records.items }
         ensures { result.tables.now ≡ tables.now }
     {
-        let mut places = ArrayVec::from([Place::default(); 512]);
-        places.truncate(tables.records.len());
         let main = Place {
             enclosing: 0,
             depth: 1,
         };
-        tables.walk(1, main, &mut places);
-        Nested { tables, places }
+        tables.walk(1, main, room);
+        Nested {
+            tables,
+            places: &room[..tables.records.len()],
+        }
     }
 
     // 26: no record is nested deeper than that.

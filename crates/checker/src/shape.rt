@@ -69,6 +69,7 @@ impl Tables {
 
     // 25: each record from 2 up is linked exactly once.
     fn check_linked_once(&self) -> Result<(), ShapeFault>
+        requires { 1 ≤ length self.now.records.items }
         ensures { result ≡ answer (once_refusal self.now.records.items (length self.now.records.items - 1)) tt }
     {
         let counts = self.count_links();
@@ -81,6 +82,7 @@ impl Tables {
     // What of the shape is asked before the places of the records are known.
     #[tactic(auto, unfolding(crate::specs::Checks::entries_refusal))]
     pub(crate) fn check_entries<O: LabelOrder>(&self, order: &O) -> Result<(), ShapeFault>
+        requires { 1 ≤ length self.now.records.items }
         ensures { result ≡ answer (entries_refusal (O.meaning order.now) (tables_in self.now)) tt }
     {
         self.check_variables(order)?;

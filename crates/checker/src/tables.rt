@@ -11,5 +11,5 @@ use sheet::{Record, Variable};
 pub(crate) struct Tables {
     pub(crate) variables: ArrayVec<Variable, 64>,
     pub(crate) records: ArrayVec<Record, 512>,
-    ghost fits: { (array_vec_len variables ≤ 64) × (array_vec_len records ≤ 512) × (1 ≤ array_vec_len records) },
+    ghost fits: { (array_vec_len variables ≤ 64) × (array_vec_len records ≤ 512) },
 }

@@ -15,7 +15,7 @@ module _ {A : Type 0} {g : LabelOrder.Ghosts A} (q : checked.Program A g) where
   few_records = q.tables.fits.1
 
   pub some_record : 1 ≤ records_in q
-  some_record = q.tables.fits.2
+  some_record = q.begins
 
   module _ (k : ℕ) (low : 1 ≤ k) (high : k ≤ records_in q) where
     pub record_runs : Runs (contents q).tables (record_at (contents q).tables.records k).form

@@ -89,12 +89,12 @@ fn check_variables(bytes: &[u8], count: usize) -> Result<(), SheetFault>
     Ok(())
 }
 
-// The first byte that is not 0 though the form leaves it unused.
-fn stray(form: u8, part: &[u8]) -> Option<usize>
+// The first byte of a record that is not 0 though the form leaves it unused.
+fn stray(form: u8, part: &[u8; 12]) -> Option<usize>
     ensures { MatchOption result ((k : ℕ) → k < length part.now → (used form k || slice_index part.now k == 0) ≡ true) (λ i. (i < length part.now) × ((used form i || slice_index part.now i == 0) ≡ false) × ((k : ℕ) → k < i → (used form k || slice_index part.now k == 0) ≡ true)) }
 {
     let mut bytes = part.iter().enumerate();
-    bytes.position(|(i, byte)| *byte != 0 && !used(form, i))
+    bytes.position(|(i, byte)| !used(form, i) && *byte != 0)
 }
 
 // One record, whose bytes begin at p.

@@ -11,9 +11,11 @@ impl Stack {
     pub(crate) fn new(first: u16) -> Stack
         ensures { pile result ≡ first ∷ [] }
     {
-        let mut entries = ArrayVec::new();
-        entries.push(first);
-        Stack { entries }
+        let mut stack = Stack {
+            entries: ArrayVec::new(),
+        };
+        stack.entries.push(first);
+        stack
     }
 
     pub(crate) fn is_empty(&self) -> bool
