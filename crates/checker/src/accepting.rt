@@ -14,8 +14,8 @@ use model::Place;
 use refusal::Refusal;
 use sheet::{ReadSheet, Record, Variable};
 
-// Fills an empty table with so many entries, as a function answers them by their index. Tables are large, so no function
-// here hands one back: each that did would clear and copy it once more.
+// Fills an empty table with so many entries, as a function answers them by their index. The table is lent: it is large, and
+// one that is handed back is cleared and copied once more.
 fn fill<T: Drop, const N: usize, F: Fn(usize) -> T>(
     table: &mut ArrayVec<T, N>,
     count: usize,
